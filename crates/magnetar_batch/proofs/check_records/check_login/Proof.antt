@@ -868,8 +868,8 @@ module _ {M : Type 1} (𝓤 : URA M) (H : Heap 𝓤) (A : Atoms 𝓤) (W : Given
             ),
           ),
         )) $ says ! (login-ends n1 n2 n3 (loginZ n10 (s11
-        .now) (s12 .now) n3) (systemIn n5 n6 n7 n8 n9 (entriesOfRecords (s13 .now))) ys4 (ws2 .1 .0) (ws3 .1 .0) (ws4 .1 .0) (ws5 .1
-        .1 .1 .0) r5 r1 e1 e2 e3 e4 e5) $
+        .now) (s12 .now) n3) (systemIn n5 n6 n7 n8 n9 (entriesOfRecords (s13 .now))) ys4 (ws2 .1 .0) (ws3 .1 .0) (ws4 .1 .0) (ws5 .1 .1 .1 .0) r5
+        r1 e1 e2 e3 e4 e5) $
         nothing ! $ move ! (5 ∷ 0 ∷ []) $ join ! $ move ! (3 ∷ 0 ∷ []) $ join ! $ move ! (3 ∷ 0 ∷ []) $ join ! $ move ! (2 ∷ 0 ∷ []) $ join ! $
         nothing ! $ move ! (5 ∷ 0 ∷ []) $ fjoin ! $ move ! (3 ∷ 0 ∷ []) $ fjoin ! $ move ! (3 ∷ 0 ∷ []) $ fjoin ! $ move ! (3 ∷ 0 ∷ []) $ fjoin !
         $ move ! (3 ∷ 0 ∷ []) $ fjoin ! $ move ! (3 ∷ 0 ∷ []) $ fjoin ! $ move ! (3 ∷ 0 ∷ []) $ fjoin ! $ move ! (3 ∷ 0 ∷ []) $ fjoin ! $ move !

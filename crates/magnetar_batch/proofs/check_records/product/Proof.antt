@@ -491,8 +491,8 @@ module _ {M : Type 1} (𝓤 : URA M) (H : Heap 𝓤) (A : Atoms 𝓤) (W : Given
               ),
             ),
           ),
-        )) $ says ! (product-ends n3 n4 (loginZ n6 (s9 .now) (s10 .now) n5) n7 n8 (entriesOfRecords (s1
-        .now)) ys2 (ws1 .0) (ws2 .1 .0) e1 e2) $
+        )) $ says ! (product-ends n3 n4 (loginZ n6 (s9 .now) (s10 .now) n5) n7 n8 (entriesOfRecords (s1 .now)) ys2 (ws1
+        .0) (ws2 .1 .0) e1 e2) $
         nothing ! $ move ! (3 ∷ 0 ∷ []) $ join ! $ move ! (3 ∷ 0 ∷ []) $ join ! $ move ! (2 ∷ 0 ∷ []) $ join ! $ move ! (2 ∷ 0 ∷ []) $ join ! $
         nothing ! $ move ! (3 ∷ 0 ∷ []) $ fjoin ! $ move ! (3 ∷ 0 ∷ []) $ fjoin ! $ move ! (4 ∷ 0 ∷ []) $ fjoin ! $ move ! (4 ∷ 0 ∷ []) $ fjoin !
         $ move ! (4 ∷ 0 ∷ []) $ fjoin ! $ move ! (4 ∷ 0 ∷ []) $ fjoin ! $ move ! (4 ∷ 0 ∷ []) $ fjoin ! $ move ! (4 ∷ 0 ∷ []) $ fjoin ! $ move !

@@ -528,8 +528,8 @@ module _ {M : Type 1} (𝓤 : URA M) (H : Heap 𝓤) (A : Atoms 𝓤) (W : Given
               ),
             ),
           ),
-        )) $ says ! (write-ends n6 n7 n8 n2 n3 (s4 .now) (s5 .now) (entriesOfRecords (s1 .now)) ys9
-        (ws1 .1 .1 .1 .0) (ws2 .1 .1 .1 .1 .1 .1 .1 .1 .0) e1 e2) $
+        )) $ says ! (write-ends n6 n7 n8 n2 n3 (s4 .now) (s5 .now) (entriesOfRecords (s1 .now)) ys9 (ws1 .1 .1
+        .1 .0) (ws2 .1 .1 .1 .1 .1 .1 .1 .1 .0) e1 e2) $
         nothing ! $ move ! (2 ∷ 0 ∷ []) $ join ! $ move ! (2 ∷ 0 ∷ []) $ join ! $ move ! (2 ∷ 0 ∷ []) $ join ! $ move ! (2 ∷ 0 ∷ []) $ join ! $
         nothing ! $ move ! (2 ∷ 0 ∷ []) $ fjoin ! $ move ! (5 ∷ 0 ∷ []) $ fjoin ! $ move ! (5 ∷ 0 ∷ []) $ fjoin ! $ move ! (5 ∷ 0 ∷ []) $ fjoin !
         $ move ! (2 ∷ 0 ∷ []) $ fjoin ! $ move ! (2 ∷ 0 ∷ []) $ fjoin ! $ move ! (3 ∷ 0 ∷ []) $ fjoin ! $ move ! (3 ∷ 0 ∷ []) $ fjoin ! $ move !
