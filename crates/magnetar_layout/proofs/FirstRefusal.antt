@@ -1,6 +1,6 @@
 -- An earlier number stays, and where there is none no test was bad.
 -- Assumes nothing.
-use mathlib.Core.Path.{_≡_, refl, sym, _∙_}
+use mathlib.Core.Path.{_≡_, refl, sym, ap, _∙_}
 use mathlib.Core.Bool.{Bool, true, false, _&&_}
 use mathlib.Core.List.{[], _∷_, _++_}
 use Prim.Native.Nat.{ℕ, zero, suc}
@@ -77,3 +77,16 @@ refused {n} v e h = rw (← e, ne-eqb n 0 h)
 
 pub found : {m : ℕ} (r : Gf128) (v : ℕ) → 0 ≡ m → value r ≡ v → answer (Value r) ≡ answered m v
 found r v e f = rw (← e, f)
+
+-- ---- groups of tests: where all are passed, so are the first and the last of them
+pub front-none : (l k : Tests) → firstRefusal 0 (l ++ k) ≡ 0 → firstRefusal 0 l ≡ 0
+front-none l k e = go (firstRefusal 0 l) refl
+  where
+    go : (z : ℕ) → firstRefusal 0 l ≡ z → firstRefusal 0 l ≡ 0
+    go zero h = h
+    go (suc z) h =
+        let b : suc z ≡ 0 = sym (first-refusal-kept (suc z) k (λ i. omega arith)) ∙ (ap (λ (y : ℕ). firstRefusal y k) (sym h) ∙ (sym (first-refusal-append 0 l k) ∙ e)) in
+        absurd (omega (arith, b))
+
+pub rest-none : (l k : Tests) → firstRefusal 0 (l ++ k) ≡ 0 → firstRefusal 0 k ≡ 0
+rest-none l k e = sym (first-refusal-rest l k (firstRefusal 0 l) refl (front-none l k e)) ∙ e

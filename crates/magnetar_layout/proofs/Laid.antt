@@ -3,8 +3,8 @@
 use mathlib.Core.Path.{_≡_, refl, sym, ap, _∙_}
 use mathlib.Core.Bool.{Bool, true, false}
 use mathlib.Core.List.{List, [], _∷_, _++_}
-use Prim.Native.Nat.{ℕ, zero, suc, _+_, _-_, _*_, _^_, _≤_, _<_}
-use native.Mathlib.Nat.{div-add-mod', mod-lt, le-refl, le-trans, lt-of-not-le, pow-suc}
+use Prim.Native.Nat.{ℕ, zero, suc, _+_, _-_, _*_, _/_, _^_, _≤_, _<_}
+use native.Mathlib.Nat.{div-add-mod', mod-lt, le-refl, le-trans, lt-of-not-le, pow-suc, two-pow-succ}
 use native.Mathlib.Numerals.{add-one}
 use native.Mathlib.Omega.{arith}
 use borrow.Author.Tests.{ltb-true, leb-true, leb-false, le-leb, lt-leb, ltb-false, eqb-true, eqb-false, eq-eqb, ne-eqb, not-false}
@@ -15,10 +15,10 @@ use lib.Pow.{pow-mono}
 use Rattle.magnetar_field.specs.Sizes.{log₂}
 use Rattle.magnetar_field.proofs.Log2.{log₂-pow}
 use Rattle.magnetar_layout.specs.Every.{every}
-use Rattle.magnetar_layout.specs.Tests.{isSize, mostColumns, mostWitness, columnTests, layoutTests}
+use Rattle.magnetar_layout.specs.Tests.{orRefuse, firstRefusal, isSize, Sized, mostColumns, mostWitness, columnTests, layoutTests}
 use Rattle.magnetar_layout.specs.Entries.{layoutRefusal}
 use Rattle.magnetar_layout.proofs.FirstRefusal.{first-refusal-clear}
-use Rattle.magnetar_layout.proofs.SizeLaws.{not-bad}
+use Rattle.magnetar_layout.proofs.SizeLaws.{sized, not-bad}
 use Rattle.magnetar_layout.specs.Layout.{nextMultiple, offsetsFrom, endFrom, offsets, layoutEnd, isLength, LayoutFits}
 use Rattle.magnetar_layout.proofs.EveryLaws.{both, every-at, every-tail, every-drop}
 
@@ -200,3 +200,20 @@ sound w ns e =
       lengths = not-false _ (k .1 .0);
       ends = ltb-false _ _ (k .1 .1 .0);
     }
+
+-- ---- the layout over half of m columns
+-- a size that is a power of two of at least two is even
+pub even-size : (m : ℕ) → Sized 2 mostColumns m → 2 * (m / 2) ≡ m
+even-size m z = go (log₂ m) (z .power)
+  where
+    go : (k : ℕ) → m ≡ 2 ^ k → 2 * (m / 2) ≡ m
+    go zero e = absurd (omega (arith, z .low))
+    go (suc k) e =
+        let q : m ≡ 2 ^ k + 2 ^ k = e ∙ two-pow-succ k in
+        let h : m / 2 ≡ 2 ^ k = omega (arith, q) in
+        omega (arith, q, h)
+
+-- where the columns are good, the layout's refusal is that of its own tests
+pub layout-own : (m : ℕ) (ns : List ℕ) → isSize 2 mostColumns m ≡ true → layoutRefusal (m / 2) ns ≡ firstRefusal 0 (layoutTests (m / 2) ns)
+unfolding layoutRefusal orRefuse
+layout-own m ns h = rw (even-size m (sized 2 mostColumns m h), h)

@@ -3,6 +3,7 @@ pub mod FirstRefusal
 pub mod EveryLaws
 pub mod SizeLaws
 pub mod Laid
+pub mod Places
 pub mod Outside
 pub mod Readings
 pub mod Room
