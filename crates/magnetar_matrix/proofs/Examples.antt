@@ -1,14 +1,16 @@
 -- Small batches, computed from the definitions.
 -- Assumes nothing.
 use mathlib.Core.Path.{_≡_, refl}
-use mathlib.Core.List.{List, [], _∷_}
+use mathlib.Core.List.{[], _∷_}
 use lib.ListN.{replicate}
 use Rattle.magnetar_field.specs.Gf128.{_⊗_, timesX, sumTimes, _⊕_}
 use Rattle.magnetar_field.specs.Tabulate.{tabulate}
 use Rattle.magnetar_field.specs.Words.{elements}
 use Rattle.magnetar_multilinear.specs.EqTable.{eqAt, eqFactor}
+use Rattle.magnetar_layout.specs.Layout.{nextMultiple, offsetsFrom, offsets, within, outside}
 use Rattle.magnetar_matrix.specs.Sum.{sumBelow}
-use Rattle.magnetar_matrix.specs.Batch.{bitOf, foldedAt, folded, publicFoldedAt, publicFolded}
+use Rattle.magnetar_matrix.specs.Batch.{Batch, bitOf, foldedAt, folded, publicFoldedAt, publicFolded}
+use Rattle.magnetar_matrix.specs.RowCheck.{firstNot, inPlace, strayColumn, strayLogin}
 use Rattle.magnetar_matrix.specs.Packed.{loginWords, packedBit, loginPart, publicPart, unpacked, publicOf}
 
 -- a login of 64 columns has two words, and the upper one holds no bit of it
@@ -30,3 +32,12 @@ own-columns = refl
 pub halves-folded : publicFolded 2 2 ((5 ∷ []) ∷ (4 ∷ []) ∷ []) (2 ∷ []) ≡ 1 ∷ 7 ∷ []
 unfolding _⊕_ _⊗_ timesX sumTimes tabulate eqAt eqFactor sumBelow publicFoldedAt publicFolded
 halves-folded = refl
+
+-- segments of 1 and 2 in eight columns: the columns 1 and 4 to 7 are outside. Of these two logins the second has bits at 1 and 5
+abbrev template : Batch
+template = (1 ∷ 0 ∷ 1 ∷ 1 ∷ 0 ∷ 0 ∷ 0 ∷ 0 ∷ []) ∷ (0 ∷ 1 ∷ 0 ∷ 0 ∷ 0 ∷ 1 ∷ 0 ∷ 0 ∷ []) ∷ []
+
+-- the first stray bit is the second login's, and of its two the one at the lower column
+pub lowest-told : (strayLogin 2 8 (1 ∷ 2 ∷ []) template ≡ 1) × (strayColumn 8 (1 ∷ 2 ∷ []) template 1 ≡ 1)
+unfolding nextMultiple offsetsFrom offsets within outside bitOf firstNot inPlace strayColumn strayLogin
+lowest-told = (refl, refl)

@@ -1,4 +1,6 @@
 pub mod Digits
+pub mod SetBits
+pub mod WordBits
 pub mod TableLaws
 pub mod LoginParts
 pub mod PublicParts
@@ -6,5 +8,6 @@ pub mod Blocks
 pub mod Carried
 pub mod Verdicts
 pub mod FirstRow
+pub mod StrayVerdict
 pub mod Walked
 pub mod Examples

@@ -1,17 +1,19 @@
 -- A batch of logins (the Rust's instances), the public columns of each, the relation that they are to keep, and what it means that the
--- batch is good: (A z)(B z) = C z in each row of each login, with the login's z = (w, 1, x).
--- Source: Spartan (Setty, CRYPTO 2020), R1CS; document 01, "Matrices and layout" (good) and "The run" (relation, batch, true claim);
--- document 02, U6 (each login's own public columns; `fold_public_part`).
+-- batch is good: no bit is set outside the segments, and (A z)(B z) = C z in each row of each login, with the login's z = (w, 1, x).
+-- Source: Spartan (Setty, CRYPTO 2020), R1CS; document 01, "Matrices and layout" (good) and "The run" (relation, batch, outside, true
+-- claim); document 02, U3 (a good batch has every bit outside its segments clear) and U6 (each login's own public columns;
+-- `fold_public_part`).
 -- Assumes nothing.
 use mathlib.Core.Path.{_≡_}
-use mathlib.Core.Bool.{Bool}
+use mathlib.Core.Bool.{Bool, true}
 use mathlib.Core.List.{List, [], _∷_, _++_}
-use Prim.Native.Nat.{ℕ, _+_, _<_}
+use Prim.Native.Nat.{ℕ, _+_, _/_, _<_}
 use lib.Dec.{eqb}
 use lib.ListN.{getD}
 use Rattle.magnetar_field.specs.Gf128.{_⊗_}
 use Rattle.magnetar_field.specs.Tabulate.{tabulate}
 use Rattle.magnetar_multilinear.specs.EqTable.{eqAt}
+use Rattle.magnetar_layout.specs.Layout.{outside}
 use Rattle.magnetar_matrix.specs.Sum.{sumBelow, blocks}
 use Rattle.magnetar_matrix.specs.Matrix.{Matrix, System, timesAt, times}
 
@@ -61,8 +63,13 @@ Satisfied s q b x =
     (u i : ℕ) → u < q → i < s .a .rows
     → timesAt (s .a) (assignment b x u) i ⊗ timesAt (s .b) (assignment b x u) i ≡ timesAt (s .c) (assignment b x u) i
 
--- the batch is good: every row of both systems holds for every login
+-- no bit is outside: none of the m / 2 witness columns that lie in no segment has a bit set
+abbrev pub NoBitOutside : Relation → Batch → Type 0
+NoBitOutside r b = (u y : ℕ) → u < r .q → y < r .m / 2 → outside (r .lengths) y ≡ true → bitOf b u y ≡ 0
+
+-- the batch is good: no bit is outside, and every row of both systems holds for every login
 pub record Good (r : Relation) (b : Batch) (x : PublicColumns) : Type 0 where
+  pub clear : NoBitOutside r b
   pub bin : Satisfied (r .bin) (r .q) b x
   pub fld : Satisfied (r .fld) (r .q) b x
 

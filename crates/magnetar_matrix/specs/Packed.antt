@@ -13,9 +13,13 @@ pub use Rattle.magnetar_layout.specs.Login.{publicWords}
 use Rattle.magnetar_matrix.specs.Matrix.{Matrix}
 use Rattle.magnetar_matrix.specs.Batch.{Batch, PublicColumns, batchProducts}
 
+-- bit i of a number
+abbrev pub bitAt : ℕ → ℕ → ℕ
+bitAt n i = n / 2 ^ i % 2
+
 -- the bit at column y of a login's words: bit y mod 64 of word y / 64
 unfoldable pub packedBit : List ℕ → ℕ → ℕ
-packedBit ws y = getD ws (y / 64) 0 / 2 ^ (y % 64) % 2
+packedBit ws y = bitAt (getD ws (y / 64) 0) (y % 64)
 
 -- the words of login u
 unfoldable pub loginPart : ℕ → List ℕ → ℕ → List ℕ

@@ -1,4 +1,3 @@
-// Matrices and batches: the definitions, the steps of a walk over a matrix's entries and rows, and a test on public words.
+// Matrices and batches: the definitions, the steps of a walk over a matrix's entries, and a test on public words.
 pub mod columns;
-pub mod rows;
 pub mod step;
