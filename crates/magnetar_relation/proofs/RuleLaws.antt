@@ -3,14 +3,14 @@
 use mathlib.Core.Path.{_≡_, refl, sym, ap, _∙_}
 use mathlib.Core.Bool.{Bool, true, not}
 use mathlib.Core.List.{List, [], _∷_, _++_}
-use Prim.Native.Nat.{ℕ, zero, suc, _+_, _*_, _/_, _≤_, _<_}
+use Prim.Native.Nat.{ℕ, zero, suc, _*_, _/_, _≤_, _<_}
 use native.Mathlib.Nat.{div-lt-iff-lt-mul}
 use native.Mathlib.Omega.{arith}
 use lib.Dec.{eqb, ltb}
 use lib.ListN.{length}
 use borrow.Author.Tests.{ltb-true, ltb-false, eqb-true, not-false}
 use Rattle.magnetar_layout.specs.Tests.{Tests, orRefuse, firstRefusal, isSize, Sized}
-use Rattle.magnetar_layout.proofs.FirstRefusal.{note-kept, note-clear, first-refusal-clear, first-refusal-append, first-refusal-kept}
+use Rattle.magnetar_layout.proofs.FirstRefusal.{note-kept, note-clear, first-refusal-clear, first-refusal-append, first-refusal-kept, first-refusal-rest}
 use Rattle.magnetar_layout.proofs.SizeLaws.{not-bad}
 use Rattle.magnetar_matrix.specs.Matrix.{Entry}
 use Rattle.magnetar_matrix.specs.Lent.{entriesOf}
@@ -180,6 +180,10 @@ pub lengths-free : (m q : ℕ) (ns : List ℕ) (s : Shapes) (row col lo hi : Lis
 unfolding inRelation
 lengths-free m q ns s row col lo hi = refl
 
+pub over-free : (m q : ℕ) (ns : List ℕ) (s : Shapes) (es : List Entry) → ruleTests (rulesOver m q [] s es) ≡ ruleTests (rulesOver m q ns s es)
+unfolding inRelation
+over-free m q ns s es = refl
+
 -- ---- a group of tests by the number that it gave
 pub given-is : (l : Tests) (z a : ℕ) → z ≡ firstRefusal 0 l → firstRefusal a (given z) ≡ firstRefusal a l
 unfolding orRefuse
@@ -190,3 +194,7 @@ pub given-group : (f l k : Tests) (z : ℕ) → z ≡ firstRefusal 0 l → first
 given-group f l k z e =
     first-refusal-append 0 f (given z ++ k) ∙ (first-refusal-append (firstRefusal 0 f) (given z) k ∙ (ap (λ (a : ℕ). firstRefusal a k) (given-is l z (firstRefusal 0 f) e)
     ∙ (sym (first-refusal-append (firstRefusal 0 f) l k) ∙ sym (first-refusal-append 0 f (l ++ k)))))
+
+-- ---- two groups that are passed
+pub join-none : (l k : Tests) → firstRefusal 0 l ≡ 0 → firstRefusal 0 k ≡ 0 → firstRefusal 0 (l ++ k) ≡ 0
+join-none l k e f = first-refusal-rest l k (firstRefusal 0 l) refl e ∙ f
