@@ -82,21 +82,20 @@ thin digest_records::feed_where --final 'rw b1 e1' --final 'rw b1 refl'
 thin digest_records::relation_digest --use "$ends.Ends.{digest-ends}" --use 'Rattle.magnetar_records.proofs.WalkLaws.{records-length}' $digest \
   --final 'e6 ∙ digest-ends (rulesOver n1 n2 (s3 .now) n4 (entriesOfRecords (s5 .now))) _ r3 r5 (sym (records-length (s5 .now))) e3 r1 r2 e1 e2 (rw (← e4) e5)'
 
-# magnetar_batch: the row check and the combined table over records
-crate magnetar_batch
+# magnetar_check: the row check over records
+crate magnetar_check
 entries='Rattle.magnetar_records.specs.Records.{entriesOfRecords}'
 walks=Rattle.magnetar_records.proofs.WalkLaws
-
-# the row check
-failing=magnetar_batch::check::Failing
+found=magnetar_check::check::Found
 check=$ends.CheckWalk
 zs='Rattle.magnetar_relation.specs.Steps.{loginZ}'
-in='Rattle.magnetar_batch.specs.Ranges.{systemIn}'
+in='Rattle.magnetar_relation.specs.Ends.{systemIn}'
 core=$ends
 over='Rattle.magnetar_relation.specs.Rules.{rulesOver}'
 long="$walks.{records-length}"
+free='--use Rattle.magnetar_relation.proofs.RuleLaws.{over-free} --use Rattle.magnetar_layout.specs.Tests.{firstRefusal}'
 each EachMNNNNNNSSI MNNNNNNSSI
-count CountANIMQNNNNNNSSE ANIMQNNNNNNSSE $failing
+count CountANIMQNNNNNNSSE ANIMQNNNNNNSSE $found
 thin check_records::product --use "$check.{product-ends}" --use "$entries" --use "$zs" \
   --final 'product-ends n3 n4 (loginZ n6 (s9 .now) (s10 .now) n5) n7 n8 (entriesOfRecords (s1 .now)) ys2 (ws1 .0) (ws2 .1 .0) e1 e2'
 thin check_records::check_login --use "$core.RowWalk.{login-ends}" --use "$entries" --use "$zs" --use "$in" \
@@ -105,11 +104,12 @@ thin check_records::login_unless --use "$core.RowWalk.{unless-some, unless-none}
   --final 'unless-some n2 (loginZ n10 (s11 .now) (s12 .now) n3) (systemIn n5 n6 n7 n8 n9 (entriesOfRecords (s13 .now))) n3 n1 r2 ys4 (ws2 .1 .1 .1 .0) (sym e1 ∙ b1) e2' \
   --final 'unless-none n2 (loginZ n10 (s11 .now) (s12 .now) n3) (systemIn n5 n6 n7 n8 n9 (entriesOfRecords (s13 .now))) n3 n1 ys4 (sym e1 ∙ b1)'
 thin check_records::judge --use "$check.{judge-ends}" --use "$entries" --use "$long" \
-  --final 'judge-ends n3 n4 n5 (entriesOfRecords (s6 .now)) _ (records-length (s6 .now)) n7 (s8 .now) (s9 .now) ys2 (ws4 .1 .1 .0) (ws5 .1 .1 .0) (ws6 .1 .0) r1 e1 r3 r4 r5 e3 n1 r2 e2 e4 e5 e6'
-thin check_records::row_check --use "$core.CheckEnds.{check-by, check-ends}" --use "$entries" --use "$over" --use 'Rattle.magnetar_batch.specs.Check.{outcome}' --use 'mathlib.Core.List.{[]}' \
-  --final 'let R = rulesOver n2 n3 [] n4 (entriesOfRecords (s5 .now)) in check-ends R (s6 .now) (s7 .now) ys1 r2 (check-by R (s6 .now) (s7 .now) _ r1 r2 e1 e2) r3 e3 r4 (ws4 .1 .0) (outcome r5) e4 e5'
+  --final 'judge-ends n4 n5 n6 (entriesOfRecords (s7 .now)) _ (records-length (s7 .now)) n8 (s9 .now) (s10 .now) ys3 (ws3 .1 .1 .0) (ws4 .1 .1 .0) (ws5 .1 .0) r1 e1 n2 r3 r4 n1 r2 e2 e3 e4 e5'
+thin check_records::row_check --use "$core.CheckEnds.{check-by, check-ends}" $free --use "$entries" --use "$over" --use 'Rattle.magnetar_check.specs.Check.{outcome}' \
+  --final 'let R = rulesOver n2 n3 (s4 .now) n5 (entriesOfRecords (s6 .now)) in check-ends R (s7 .now) (s8 .now) ys1 r2 (check-by R (s7 .now) (s8 .now) _ r1 r2 (e1 ∙ ap (firstRefusal 0) (over-free n2 n3 (s4 .now) n5 (entriesOfRecords (s6 .now)))) e2) r3 e3 r4 r5 (ws5 .1 .1 .0) (outcome r6) e4 e5 e6'
 
-# the combined table
+# magnetar_batch: the combined table over records
+crate magnetar_batch
 combo=$ends.ComboWalk
 each EachNNNNMI NNNNMI
 thin combo_records::add_matrix --use "$combo.{matrix-ends}" --use "$entries" \
@@ -119,7 +119,7 @@ thin combo_records::combine --use "$combo.{combine-ends}" --use "$entries" --use
   --final 'combine-ends n2 n3 (entriesOfRecords (s7 .now)) _ (records-length (s7 .now)) n4 n5 n6 ys1 (ws2 .1 .0) (ws3 .1 .0) (ws4 .1 .0) (ws5 .0) r1 e1 e2 e3 e4 e5'
 thin combo_records::fill --final '(cc, cc)'
 thin combo_records::fill_unless --final '(refl, rw (← e1, b1) (e2 .0), rw (← e1, b1) (e2 .1))' --final '(refl, rw (← e1, b1) refl, rw (← e1, b1) refl)'
-thin combo_records::build_m_combo --use "$core.ComboEnds.{combo-by, combo-ends}" --use "$entries" --use "$over" --use 'mathlib.Core.List.{[]}' \
+thin combo_records::build_m_combo --use "$ends.ComboEnds.{combo-by, combo-ends}" --use "$entries" --use "$over" --use 'mathlib.Core.List.{[]}' \
   --final 'let R = rulesOver n3 1 [] n4 (entriesOfRecords (s5 .now)) in combo-ends R (s6 .now) (s7 .now) (s8 .now) ys1 ys2 r2 (combo-by R (s6 .now) (s7 .now) (s8 .now) _ _ r1 r2 e1 e2) r3 (ws3 .1 .0) (ws3 .1 .1 .0) e3'
 
 # magnetar_forms: locals lent to the thin functions
@@ -137,8 +137,8 @@ thin records::combine_at --final 'e4 ∙ rw (e1, e2, e3)'
 thin records::combine_unless --final 'rw (← e1, b1) e2' --final 'rw (← e1, b1) refl'
 thin records::verify_with --use "$ends.VerifyEnds.{verify-ends}" $over \
   --final 'λ h. verify-ends (rulesOver n4 n5 (s6 .now) n7 (entriesOfRecords (s8 .now))) (s9 .now) (s10 .now) n11 ys2 ys3 n1 r1 h e1 r6 (ws6 .1 .0) (ws6 .1 .1 .0) r2 (ws5 .1 .0) e2 (rw (← e3, ← e4) e5) e6'
-thin records::verify_virtual_spartan --use "$ends.ByNumbers.{over-free}" $over \
-  --final 'e2 (e1 ∙ over-free n4 n5 (s6 .now) n7 (entriesOfRecords (s8 .now)))'
+thin records::verify_virtual_spartan $free $over \
+  --final 'e2 (e1 ∙ ap (firstRefusal 0) (over-free n4 n5 (s6 .now) n7 (entriesOfRecords (s8 .now))))'
 # the prover
 thin records::product --use "$ends.ProductLaws.{product-ends}" \
   --final 'product-ends n2 n3 n4 n5 (s6 .now) (s7 .now) (s8 .now) ys1 r1 r2 r4 (ws3 .1 .1 .1 .1 .1 .1 .1 .1 .0) (ws5 .0) e1 e2 e3 e4 e5'
@@ -150,8 +150,8 @@ thin records::products_unless --use "$ends.ProveRun.{products-some, products-non
 lent='(rulesOver n5 n6 (s7 .now) n8 (entriesOfRecords (s9 .now))) (s10 .now) (s11 .now) ys2 ys3 ys4'
 thin records::prove_unless --use "$ends.ProveRun.{unless-ends}" $over \
   --final "unless-ends $lent n12 n1 (ws1 .1 .0) (ws2 .1 .1 .0) (ws4 .1 .0) (r2 .«transcript») r5 (r2 .«draws») r3 (ws2 .1 .0) (ws5 .1 .0) (ws5 .1 .1 .0) (ws5 .1 .1 .1 .0) e1 e2 e3 e4 e5"
-thin records::prove_virtual_spartan --use "$ends.ByNumbers.{over-free}" --use "$ends.ProveRun.{number}" $over \
-  --final "e3 (number $lent h1 r1 r2 (e1 ∙ over-free n5 n6 (s7 .now) n8 (entriesOfRecords (s9 .now))) e2)"
+thin records::prove_virtual_spartan $free --use "$ends.ProveRun.{number}" $over \
+  --final "e3 (number $lent h1 r1 r2 (e1 ∙ ap (firstRefusal 0) (over-free n5 n6 (s7 .now) n8 (entriesOfRecords (s9 .now)))) e2)"
 
 # magnetar_cases: the first records of an array, and a transcript, lent to the entries over records
 crate magnetar_cases

@@ -26,7 +26,7 @@ use Rattle.magnetar_relation.proofs.RuleLaws.{given-group}
 use Rattle.magnetar_matrix.specs.Combined.{combinedTable}
 use Rattle.magnetar_batch.specs.Entries.{comboRest, comboTestsBy, comboRefusal, comboWords, comboScratchOf, combined, comboOutcome}
 use Rattle.magnetar_batch.specs.TableSteps.{padded, pointIn, tableMade}
-use Rattle.magnetar_batch.proofs.Groups.{front-none, rest-none}
+use Rattle.magnetar_layout.proofs.FirstRefusal.{front-none, rest-none}
 use Rattle.magnetar_batch.proofs.TableWalk.{Row, table-made}
 use Rattle.magnetar_batch.proofs.ColumnLaws.{Wide, combined-is}
 

@@ -1,6 +1,6 @@
 -- The combined table over records, call by call: what its walks leave is what the core's definitions say of the systems' matrices.
 -- Assumes nothing.
-use mathlib.Core.Path.{_≡_, sym, ap, _∙_}
+use mathlib.Core.Path.{_≡_, ap, _∙_}
 use mathlib.Core.List.{List, []}
 use Prim.Native.Nat.{ℕ, max}
 use lib.ListN.{length, getD}
@@ -12,10 +12,10 @@ use Rattle.magnetar_relation.specs.Rules.{relationOf, rulesOver}
 use Rattle.magnetar_relation.specs.Steps.{clearedTo, columnAdded}
 use Rattle.magnetar_relation.specs.EntryWalks.{foldEntries, foldEntriesWithin}
 use Rattle.magnetar_batch.specs.TableSteps.{eqBehind, pointIn, clearedBehind, matrixAdded, systemAdded, tableMade}
-use Rattle.magnetar_batch.specs.declared.ranges.Ends.{Ends}
-use Rattle.magnetar_batch.specs.Ranges.{endsOf, partOf, matrixIn}
+use Rattle.magnetar_relation.specs.declared.range.Ends.{Ends}
+use Rattle.magnetar_relation.specs.Ends.{endsOf, partOf, matrixIn}
 use Rattle.magnetar_records.proofs.WalkLaws.{within-part}
-use Rattle.magnetar_batch.proofs.RangeLaws.{bin-a, bin-b, bin-c, fld-a, fld-b, fld-c}
+use Rattle.magnetar_relation.proofs.EndLaws.{bin-a, bin-b, bin-c, fld-a, fld-b, fld-c}
 
 pub matrix-ends : (m n : ℕ) (al : List ℕ) (k : ℕ) (p : List ℕ) (a b : ℕ) (es : List Entry) (s s₁ s₂ : List ℕ)
     → s₁ ≡ eqBehind m (getD (elements al) k 0) (pointIn n p) s → s₂ ≡ foldEntriesWithin (columnAdded m n) a b 0 es s₁

@@ -13,12 +13,12 @@ use lib.ListN.{length, getD}
 use borrow.Author.Tests.{ltb-true, ltb-false, leb-true, leb-false, lt-ltb, le-ltb, lt-leb, le-leb, eqb-true, eqb-false}
 use Rattle.magnetar_field.specs.Gf128.{_⊕_}
 use Rattle.magnetar_field.proofs.Xor.{⊕-zero, zero-⊕}
-use Rattle.magnetar_matrix.specs.Packed.{packedBit}
+use Rattle.magnetar_matrix.specs.Packed.{bitAt, packedBit}
 use Rattle.magnetar_matrix.specs.Table.{addedAt, raised}
-use Rattle.magnetar_batch.specs.Fold.{bitAt, wordSelect, selectAt, rowSelect}
+use Rattle.magnetar_batch.specs.Fold.{wordSelect, selectAt, rowSelect}
 use Rattle.magnetar_matrix.proofs.Digits.{bit-missing}
 use Rattle.magnetar_matrix.proofs.TableLaws.{added-length, added-here, added-there, raised-is, raised-ext, raised-twice}
-use Rattle.magnetar_batch.proofs.SetBits.{Lowest, bit-past, bit-low, bit-cut}
+use Rattle.magnetar_matrix.proofs.SetBits.{Lowest, bit-past, bit-low, bit-cut}
 
 -- ---- one word
 pub select-in : (word base e y : ℕ) → base ≤ y → selectAt word base e y ≡ bitAt word (y - base) * e

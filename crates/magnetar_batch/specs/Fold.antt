@@ -3,17 +3,13 @@
 -- Assumes nothing.
 use mathlib.Core.Bool.{cond}
 use mathlib.Core.List.{List, _∷_}
-use Prim.Native.Nat.{ℕ, _*_, _-_, _/_, _%_, _^_}
+use Prim.Native.Nat.{ℕ, _*_, _-_, _%_, _^_}
 use lib.Dec.{ltb, leb}
 use lib.ListN.{getD}
 use Rattle.magnetar_field.specs.Gf128.{_⊗_}
 use Rattle.magnetar_field.specs.Words.{elements}
 use Rattle.magnetar_matrix.specs.Sum.{sumBelow}
-use Rattle.magnetar_matrix.specs.Packed.{packedBit, loginPart, publicPart}
-
--- bit i of a number
-abbrev pub bitAt : ℕ → ℕ → ℕ
-bitAt word i = word / 2 ^ i % 2
+use Rattle.magnetar_matrix.specs.Packed.{bitAt, packedBit, loginPart, publicPart}
 
 -- the word without its bits from n on
 unfoldable pub wordSelect : ℕ → ℕ → ℕ

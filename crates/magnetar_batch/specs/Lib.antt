@@ -3,6 +3,3 @@ pub mod Systems
 pub mod TableSteps
 pub mod Entries
 pub mod MarkedRows
-pub mod Check
-pub mod CheckSteps
-pub mod Ranges

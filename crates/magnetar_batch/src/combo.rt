@@ -104,7 +104,7 @@ pub fn combine(
 {
     let b = sh.bin;
     let f = sh.fld;
-    let a = range::past(b, 0, r1cs::entries_held(row, col, lo, hi));
+    let a = range::ends_of(sh, r1cs::entries_held(row, col, lo, hi)).binc;
     step::clear_front(m, s);
     add_system(s, m, b, 0, al, 0, pb, row, col, lo, hi);
     add_system(s, m, f, a, al, 3, pf, row, col, lo, hi);

@@ -12,12 +12,12 @@ ghost use Rattle.magnetar_relation.specs.EntryWalks.{foldEntriesWithin};
 ghost use Rattle.magnetar_batch.specs.Entries.{combined, comboOutcome};
 ghost use Rattle.magnetar_batch.specs.TableSteps.{padded, matrixAdded, tableMade};
 ghost use Rattle.magnetar_records.specs.Records.{entryOf, entriesOfRecords};
-ghost use Rattle.magnetar_batch.specs.Ranges.{matrixIn};
-use crate::ranges;
+ghost use Rattle.magnetar_relation.specs.Ends.{matrixIn};
 use crate::table as core;
 use magnetar_records::records::Entry;
 use magnetar_records::steps;
 use magnetar_records::walks;
+use magnetar_relation::range;
 use magnetar_relation::shapes::Shapes;
 use magnetar_relation::step as table;
 
@@ -109,7 +109,7 @@ pub fn combine(
     let hf = tf.a;
     let nb = hb.rows;
     let nf = hf.rows;
-    let g = ranges::ends_of(sh, es.len());
+    let g = range::ends_of(sh, es.len());
     let a = g.bina;
     let b = g.binb;
     let c = g.binc;

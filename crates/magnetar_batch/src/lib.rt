@@ -1,9 +1,6 @@
-// Folds of a packed batch over its logins; the six matrices combined and the plain row check, over number slices and over records.
-pub mod check;
-pub mod check_records;
+// Folds of a packed batch over its logins; the six matrices combined, over number slices and over records.
 pub mod combo;
 pub mod combo_records;
 pub mod fold;
-mod ranges;
 mod room;
 pub mod table;

@@ -2,6 +2,7 @@
 -- Assumes nothing.
 use denote.Ref.{now}
 use Rattle.magnetar_matrix.specs.Lent.{entriesOf}
+use Rattle.magnetar_relation.proofs.EndLaws.{bin-ends}
 use Rattle.magnetar_batch.proofs.TableWalk.{both-added}
 use borrow.Author.Needs.{needs}
 use Rattle.magnetar_batch.proofs.combo.combine.Statement.{statement}
@@ -10,8 +11,8 @@ use Rattle.magnetar_batch.proofs.combo.combine.Tie as tie
 entries-held-requires : tie.Need-entries-held-requires
 entries-held-requires c κs = search needs
 
-past-requires : tie.Need-past-requires
-past-requires c κs = search needs
+ends-of-requires : tie.Need-ends-of-requires
+ends-of-requires c κs = search needs
 
 clear-front-requires : tie.Need-clear-front-requires
 clear-front-requires c κs = search needs
@@ -34,7 +35,7 @@ returns c =
     let x = half .before .before .before .before .before .before .before .before .before .before .before .before .before .args in
     let es = entriesOf (now (x .row)) (now (x .col)) (now (x .lo)) (now (x .hi)) in
     let h = c .before .before .before .before .before .before .before .before .before .before .before .before .before .before .before .before .before .entries-held .ensures .0 in
-    let a = c .before .before .before .before .before .before .before .before .before .before .before .before .before .before .before .before .past .ensures in
+    let a = bin-ends (x .sh) _ _ (c .before .before .before .before .before .before .before .before .before .before .before .before .before .before .before .before .ends-of .ensures) in
     let e₁ = c .before .before .before .before .before .before .before .before .before .before .before .before .before .before .clear-front .ensures in
     let e₂ = c .before .before .before .before .before .before .before .before .before .before .add-system .ensures in
     let e₃ = c .before .before .before .before .before .before .add-system2 .ensures in
@@ -46,7 +47,7 @@ combine-spec =
     tie.close
     (tie.spec
     entries-held-requires
-    past-requires
+    ends-of-requires
     clear-front-requires
     add-system-requires
     add-system-requires-2

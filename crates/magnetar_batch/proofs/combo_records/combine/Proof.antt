@@ -60,15 +60,15 @@ use Rattle.magnetar_relation.proofs.shapes.SystemShape.Laws as lSystemShape
 use Rattle.magnetar_relation.specs.declared.shapes.Shape.{Shape}
 use Rattle.magnetar_relation.proofs.shapes.Shape as mShape
 use Rattle.magnetar_relation.proofs.shapes.Shape.Laws as lShape
-use Rattle.magnetar_batch.specs.declared.ranges.Ends.{Ends}
-use Rattle.magnetar_batch.proofs.ranges.Ends as mEnds
-use Rattle.magnetar_batch.proofs.ranges.Ends.Laws as lEnds
+use Rattle.magnetar_relation.specs.declared.range.Ends.{Ends}
+use Rattle.magnetar_relation.proofs.range.Ends as mEnds
+use Rattle.magnetar_relation.proofs.range.Ends.Laws as lEnds
 use Rattle.magnetar_transcript.proofs.Locals.{tidy, bare, kept, dies, alloc, hide, free-all}
 use Rattle.magnetar_transcript.proofs.Again.{LentAgain, lends-again, comes-back}
-use Rattle.magnetar_batch.proofs.ranges.ends_of as g1
-use Rattle.magnetar_batch.proofs.ranges.ends_of.Symbol as g1-def
-use Rattle.magnetar_batch.proofs.ranges.ends_of.Symbol.{name as #g1}
-use Rattle.magnetar_batch.proofs.ranges.ends_of.Met as g1-thm
+use Rattle.magnetar_relation.proofs.range.ends_of as g1
+use Rattle.magnetar_relation.proofs.range.ends_of.Symbol as g1-def
+use Rattle.magnetar_relation.proofs.range.ends_of.Symbol.{name as #g1}
+use Rattle.magnetar_relation.proofs.range.ends_of.Met as g1-thm
 use Rattle.magnetar_relation.proofs.step.clear_front as g2
 use Rattle.magnetar_relation.proofs.step.clear_front.Symbol as g2-def
 use Rattle.magnetar_relation.proofs.step.clear_front.Symbol.{name as #g2}
@@ -1143,7 +1143,7 @@ combine-spec 𝓤 H 𝓜 𝓖 𝓡 =
     entered 𝓤 H (tripleOf 𝓤 H (𝓖 .A) f.signature (f.spec 𝓤 H (𝓖 .A) (𝓜 .mem) (𝓡 .run)))
     (tables 𝓤 H 𝓜 𝓡 code.env .C) (tables 𝓤 H 𝓜 𝓡 code.env .Λ) #f code.function (code.unfolded 𝓤 H 𝓜 𝓡)
     (meets 𝓤 H (𝓖 .A) (givenOf 𝓤 H 𝓜 𝓖) (𝓜 .mem) (𝓡 .run) (tablesOf 𝓤 H 𝓜 (tables 𝓤 H 𝓜 𝓡 code.env))
-    (cited 𝓤 H (Callee-g1 𝓤 H (𝓖 .A) (𝓜 .mem) (𝓡 .run)) 𝓜 𝓡 code.env #g1 g1-def.routine code.calls-magnetar-batch·ranges·ends-of (g1-thm.met 𝓤 H 𝓜 𝓖 𝓡))
+    (cited 𝓤 H (Callee-g1 𝓤 H (𝓖 .A) (𝓜 .mem) (𝓡 .run)) 𝓜 𝓡 code.env #g1 g1-def.routine code.calls-magnetar-relation·range·ends-of (g1-thm.met 𝓤 H 𝓜 𝓖 𝓡))
     (cited 𝓤 H (Callee-g2 𝓤 H (𝓖 .A) (𝓜 .mem) (𝓡 .run)) 𝓜 𝓡 code.env #g2 g2-def.routine code.calls-magnetar-relation·step·clear-front (g2-thm.met 𝓤 H 𝓜 𝓖 𝓡))
     (cited 𝓤 H (Callee-g3 𝓤 H (𝓖 .A) (𝓜 .mem) (𝓡 .run)) 𝓜 𝓡 code.env #g3 g3-def.routine code.calls-magnetar-batch·combo-records·add-system (g3-thm.met 𝓤 H 𝓜 𝓖 𝓡))
     (cited 𝓤 H (Callee-g4 𝓤 H (𝓖 .A) (𝓜 .mem) (𝓡 .run)) 𝓜 𝓡 code.env #g4 g4-def.routine code.calls-magnetar-batch·table·clear-behind (g4-thm.met 𝓤 H 𝓜 𝓖 𝓡)))

@@ -8,7 +8,7 @@ use lib.Count.{trailing-le}
 use Rattle.magnetar_field.specs.Gf128.{value}
 use Rattle.magnetar_field.specs.Words.{elements}
 use Rattle.magnetar_matrix.proofs.TableLaws.{added-in}
-use Rattle.magnetar_batch.proofs.SetBits.{lowest, cleared-less}
+use Rattle.magnetar_matrix.proofs.SetBits.{lowest, cleared-less}
 use Rattle.magnetar_batch.proofs.Selected.{Selected, selected-start, selected-more, selected-end}
 use borrow.Author.Needs.{needs}
 use Rattle.magnetar_batch.proofs.fold.add_word.Statement.{statement}
