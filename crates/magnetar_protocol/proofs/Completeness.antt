@@ -13,7 +13,6 @@ use Rattle.magnetar_protocol.specs.Draws.{Draws, drawsOf, loginPoint, lo
 use Rattle.magnetar_protocol.specs.Run.{verdict, claims, trueValue, ClaimsTrue}
 use Rattle.magnetar_protocol.specs.RunSizes.{SizedRun, SizedProof}
 use Rattle.magnetar_protocol.specs.Theory.{relationE, publicE, batchE, drawsE}
-use Rattle.magnetar_protocol.specs.Soundness.{NoBitOutside}
 use Rattle.magnetar_protocol.specs.Prover.{trueValues, honestProof, proverProof, proverClaims}
 use Rattle.magnetar_protocol.specs.Theorems.{Completeness}
 use Rattle.magnetar_protocol.proofs.SizeFacts.{Cut, cut}
@@ -49,14 +48,14 @@ module _ (r : Relation) (b : Batch) (x : PublicColumns) (d : List ℕ) (S : Size
   true-claims = values-true r (S .relation) (drawsOf r d) (cut r d (S .draws)) (trueValues r b (drawsOf r d)) b
       (λ i h. tabulate-get (trueValue r b (drawsOf r d)) (length (r .lengths)) i 0 h)
 
-  honest-accepted : Good r b x → NoBitOutside r b → verdict r x (proverProof r b x d) d ≡ 0
+  honest-accepted : Good r b x → verdict r x (proverProof r b x d) d ≡ 0
   unfolding verdict proverProof
-  honest-accepted g stray =
+  honest-accepted g =
       of-holds r x (honestProof r b x D) D C
       (holds r (honestProof r b x D) D (S .relation) C (honest-length r b x D C) (honest-elements r b x D) x (S .public)
       (subst (λ (W : Proof gf128). Accepted gf128 (relationE r) (publicE x) (drawsE r D) W)
       (sym (words-are r b x D (S .relation) (S .batch) (S .public) C))
-      (complete (relationE r) (publicE x) (batchE b) (drawsE r D) (sizes r b D (S .relation) (S .batch) C x (S .public) stray)
+      (complete (relationE r) (publicE x) (batchE b) (drawsE r D) (sizes r b D (S .relation) (S .batch) C x (S .public) (g .clear))
       (good-theory r b x (S .relation) (S .batch) (S .public) g))))
     where
       D : Draws
@@ -67,8 +66,8 @@ module _ (r : Relation) (b : Batch) (x : PublicColumns) (d : List ℕ) (S : Size
 
 -- Demand 3, second half.
 pub completeness : (r : Relation) (b : Batch) (x : PublicColumns) (d : List ℕ) → Completeness r b x d
-completeness r b x d S g stray = record {
-  accepted = honest-accepted r b x d S g stray;
+completeness r b x d S g = record {
+  accepted = honest-accepted r b x d S g;
   same-claims = same-claims r b x d S;
   true-claims = true-claims r b x d S;
 }

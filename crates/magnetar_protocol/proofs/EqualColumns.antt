@@ -57,12 +57,14 @@ pub good-equal : (r : Relation) (b : Batch) (c : List ℕ) → GoodEqual r b c
 unfolding Satisfied
 good-equal r b c = (
   (λ g. (
+    g .clear,
     λ u i h k. subst (λ (z : List ℕ). Row (r .bin) z i) (z-equal b c (r .q) u h) (g .bin u i h k),
     λ u i h k. subst (λ (z : List ℕ). Row (r .fld) z i) (z-equal b c (r .q) u h) (g .fld u i h k),
   )),
   (λ g. record {
-    bin = λ u i h k. subst (λ (z : List ℕ). Row (r .bin) z i) (sym (z-equal b c (r .q) u h)) (g .0 u i h k);
-    fld = λ u i h k. subst (λ (z : List ℕ). Row (r .fld) z i) (sym (z-equal b c (r .q) u h)) (g .1 u i h k);
+    clear = g .0;
+    bin = λ u i h k. subst (λ (z : List ℕ). Row (r .bin) z i) (sym (z-equal b c (r .q) u h)) (g .1 u i h k);
+    fld = λ u i h k. subst (λ (z : List ℕ). Row (r .fld) z i) (sym (z-equal b c (r .q) u h)) (g .2 u i h k);
   }),
 )
 

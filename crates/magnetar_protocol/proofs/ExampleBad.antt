@@ -1,8 +1,7 @@
--- Runs that show what the branches and hypotheses of the theorems are for, computed from the definitions: a bit in the gap between two
--- segments; and a batch that is not good, accepted at one list of draws and refused at another, where no draw is bad.
+-- Runs that show what the branches of the theorem on an accepted run are for, computed from the definitions: a batch that is not good,
+-- accepted at one list of draws and refused at another, where no draw is bad.
 -- Assumes nothing.
 use mathlib.Core.Path.{_≡_, refl, ap, _∙_, subst}
-use mathlib.Core.Bool.{true, false}
 use mathlib.Core.List.{List, [], _∷_, map, List·Memᴰ, List·Memᴰ·not-nil, List·Memᴰ·cases-cons}
 use mathlib.Core.Logic.{_⊎_, inl, inr}
 use Prim.Native.Nat.{ℕ, zero, suc, _^_, _≤_, _<_}
@@ -10,76 +9,39 @@ use native.Mathlib.Decide.{ℕ-discrete}
 use native.Mathlib.Nat.{le-refl}
 use native.Mathlib.Omega.{arith}
 use lib.Dec.{lit<}
-use lib.ListN.{length, getD, take}
+use lib.ListN.{getD, take}
 use Rattle.magnetar_field.specs.Gf128.{_⊕_, _⊗_, sumTimes, timesX}
 use Rattle.magnetar_field.specs.Sizes.{log₂, halvings}
 use Rattle.magnetar_field.specs.Tabulate.{tabulate}
 use Rattle.magnetar_field.specs.Polynomial.{eval, keep, rootsBelow, roots}
 use Rattle.magnetar_multilinear.specs.EqTable.{eqFactor, eqAt, eqTable}
-use Rattle.magnetar_multilinear.specs.Multilinear.{dot, mle, line, insertZero, bindVar}
+use Rattle.magnetar_multilinear.specs.Multilinear.{dot, mle}
 use Rattle.magnetar_sumcheck_verifier.specs.Sum.{total}
 use Rattle.magnetar_sumcheck_verifier.specs.Round.{checkSum, holds, running}
-use Rattle.magnetar_sumcheck_verifier.specs.Order.{eqPoints, nextVar, at₀, at₁, slope}
-use Rattle.magnetar_sumcheck_verifier.specs.Outer.{outerEnd, coefficient₀, coefficient₁, coefficient₂, weighted, timesEq, outerMessage, dropVar}
-use Rattle.magnetar_sumcheck_verifier.specs.Inner.{innerEnd, innerSums, innerMessage}
-use Rattle.magnetar_sumcheck_verifier.specs.Messages.{outerNext, outerFold, outerStart, outerMessages, innerMessages}
-use Rattle.magnetar_layout.specs.Layout.{nextMultiple, offsetsFrom, offsets, within, outside}
-use Rattle.magnetar_matrix.specs.Sum.{sumBelow, blocks}
+use Rattle.magnetar_sumcheck_verifier.specs.Order.{eqPoints}
+use Rattle.magnetar_sumcheck_verifier.specs.Outer.{outerEnd}
+use Rattle.magnetar_sumcheck_verifier.specs.Inner.{innerEnd}
+use Rattle.magnetar_layout.specs.Layout.{nextMultiple, offsetsFrom, offsets}
+use Rattle.magnetar_matrix.specs.Sum.{sumBelow}
 use Rattle.magnetar_matrix.specs.Matrix.{Matrix, System, sumOver, rowTotal, share, timesAt, times, transpose, mleTable}
 use Rattle.magnetar_matrix.specs.Combined.{combinedTable}
-use Rattle.magnetar_matrix.specs.Batch.{Relation, Batch, PublicColumns, batchProducts, bitOf, assignment, foldedAt, folded, publicFoldedAt, publicFolded, claimValue, Satisfied, Good}
+use Rattle.magnetar_matrix.specs.Batch.{Relation, Batch, PublicColumns, assignment, publicFoldedAt, publicFolded, Satisfied, Good}
 use Rattle.magnetar_theory.specs.Lists.{section, listsOf}
 use Rattle.magnetar_theory.specs.Gf128.{number, element, elementSum, elementProduct, same, rootsOf}
 use Rattle.magnetar_theory.proofs.Gf128.{number-of}
 use Rattle.magnetar_protocol.specs.Proof.{binMessages, fldMessages, terminals, innerRounds, valueZ, segmentValues}
 use Rattle.magnetar_protocol.specs.Draws.{drawsOf, loginPoint, lowPoint, topElement}
 use Rattle.magnetar_protocol.specs.Checks.{roundHolds, innerClaim, combined, segmentSum, sharedChecks, rowChecks, terminalChecks, innerChecks, identityCheck, checks, firstFailure}
-use Rattle.magnetar_protocol.specs.Run.{verdict, trueValue}
-use Rattle.magnetar_protocol.specs.Prover.{joined, interleaved, trueValues, productTable, outerRounds, terminalValues, foldedZ, honestProof, proverProof}
-use Rattle.magnetar_protocol.specs.Soundness.{NoBitOutside, badDraws, absorbedBefore, BadDraw}
+use Rattle.magnetar_protocol.specs.Run.{verdict}
+use Rattle.magnetar_protocol.specs.Soundness.{badDraws, absorbedBefore, BadDraw}
 
--- ---- a gap: m = 8, q = 1, no entry, segments of 1 and of 2 among 4 columns
+-- ---- a bad draw: m = 2, q = 1, the bin row 1 1 = 0, which no batch keeps, and no segment
 abbrev empty : ℕ → Matrix
 empty m = record { rows = 1; cols = m; entries = [] }
 
-abbrev empties : ℕ → System
+abbrev pub empties : ℕ → System
 empties m = record { a = empty m; b = empty m; c = empty m }
 
-abbrev gapped : Relation
-gapped = record { m = 8; q = 1; bin = empties 8; fld = empties 8; lengths = 1 ∷ 2 ∷ [] }
-
--- column 1 lies between the segments
-pub gap : map (outside (gapped .lengths)) (0 ∷ 1 ∷ 2 ∷ 3 ∷ []) ≡ false ∷ true ∷ false ∷ false ∷ []
-unfolding outside within offsets offsetsFrom nextMultiple
-gap = refl
-
--- a bit there
-abbrev gapBatch : Batch
-gapBatch = (0 ∷ 1 ∷ 0 ∷ 0 ∷ []) ∷ []
-
-pub gap-stray : NoBitOutside gapped gapBatch → ⊥
-unfolding outside within offsets offsetsFrom nextMultiple bitOf
-gap-stray f = let e : _≡_ {A = ℕ} 1 0 = f 0 1 (lit< tt) (lit< tt) refl in omega arith
-
-abbrev gapColumns : PublicColumns
-gapColumns = (0 ∷ 0 ∷ 0 ∷ []) ∷ []
-
-abbrev gapDraws : List ℕ
-gapDraws = 1 ∷ 2 ∷ 3 ∷ 4 ∷ 5 ∷ 6 ∷ 7 ∷ 8 ∷ 9 ∷ []
-
--- no row fails, and the honest proof is refused with 29 all the same: no segment value tells of this bit
-pub gap-refused : verdict gapped gapColumns (proverProof gapped gapBatch gapColumns gapDraws) gapDraws ≡ 29
-unfolding log₂ halvings _⊕_ _⊗_ sumTimes timesX tabulate eval eqFactor eqAt eqTable dot mle line insertZero bindVar
-    total checkSum holds running eqPoints at₀ at₁ slope outerEnd innerEnd innerSums innerMessage nextVar coefficient₀
-    coefficient₁ coefficient₂ weighted timesEq outerMessage dropVar outerNext outerFold outerStart outerMessages
-    innerMessages sumBelow blocks sumOver rowTotal share timesAt times transpose mleTable bitOf assignment foldedAt folded publicFoldedAt publicFolded
-    claimValue nextMultiple offsetsFrom offsets binMessages fldMessages terminals innerRounds valueZ segmentValues drawsOf
-    loginPoint lowPoint topElement roundHolds innerClaim combined combinedTable segmentSum sharedChecks rowChecks terminalChecks
-    innerChecks identityCheck checks firstFailure verdict trueValue joined interleaved trueValues productTable batchProducts outerRounds
-    terminalValues foldedZ honestProof proverProof
-gap-refused = refl
-
--- ---- a bad draw: m = 2, q = 1, the bin row 1 1 = 0, which no batch keeps, and no segment
 -- one row that reads the column of 1
 abbrev reads : Matrix
 reads = record { rows = 1; cols = 2; entries = record { row = 0; col = 1; value = 1 } ∷ [] }

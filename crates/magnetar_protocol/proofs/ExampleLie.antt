@@ -22,13 +22,13 @@ use Rattle.magnetar_protocol.proofs.Soundness.{soundness}
 use Rattle.magnetar_protocol.proofs.ExampleBad.{lie, lieBatch, lieColumns, lieWords, zeros, lie-not-good, lie-answers}
 
 -- ---- sizes
-below : (l : List ℕ) → every (λ (x : ℕ). ltb x (2 ^ 128)) l ≡ true → Elements l
+pub below : (l : List ℕ) → every (λ (x : ℕ). ltb x (2 ^ 128)) l ≡ true → Elements l
 unfolding every
 below [] e i = pow-pos 128
 below (x ∷ l) e zero = ltb-true x (2 ^ 128) (both (ltb x (2 ^ 128)) (every (λ (x : ℕ). ltb x (2 ^ 128)) l) e .0)
 below (x ∷ l) e (suc i) = below l (both (ltb x (2 ^ 128)) (every (λ (x : ℕ). ltb x (2 ^ 128)) l) e .1) i
 
-relation : SizedRelation lie
+pub relation : SizedRelation lie
 unfolding log₂ halvings every isLength layoutEnd endFrom nextMultiple
 relation = record {
   columns = record { low = lit≤ tt; high = lit≤ tt; power = refl };
@@ -64,7 +64,7 @@ batch = record { logins = refl; columns = columns; bits = λ u y. rw (bit u y) (
     columns zero h = refl
     columns (suc u) h = absurd (omega arith)
 
-public : SizedPublic lie lieColumns
+pub public : SizedPublic lie lieColumns
 public = record { logins = refl; columns = columns; elements = elements }
   where
     columns : (u : ℕ) → u < 1 → suc (length (publicColumns lieColumns u)) ≡ 1

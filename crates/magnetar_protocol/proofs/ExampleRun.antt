@@ -12,11 +12,11 @@ use Rattle.magnetar_field.specs.Gf128.{_⊕_, _⊗_, sumTimes, timesX}
 use Rattle.magnetar_field.specs.Sizes.{log₂, halvings}
 use Rattle.magnetar_layout.specs.Every.{every}
 use Rattle.magnetar_matrix.specs.Matrix.{sumOver, rowTotal, share, timesAt}
-use Rattle.magnetar_matrix.specs.Batch.{publicColumns, bitOf, assignment, Satisfied, Good}
+use Rattle.magnetar_matrix.specs.Batch.{publicColumns, bitOf, assignment, Satisfied, NoBitOutside, Good}
 use Rattle.magnetar_layout.specs.Layout.{nextMultiple, offsetsFrom, offsets, endFrom, layoutEnd, isLength, within, outside}
 use Rattle.magnetar_protocol.specs.Run.{ClaimsTrue}
 use Rattle.magnetar_protocol.specs.RunSizes.{SizedRelation, SizedBatch, SizedPublic, SizedRun}
-use Rattle.magnetar_protocol.specs.Soundness.{NoBitOutside, BadDraw}
+use Rattle.magnetar_protocol.specs.Soundness.{BadDraw}
 use Rattle.magnetar_protocol.specs.Prover.{proverProof, CompleteRun}
 use Rattle.magnetar_protocol.proofs.HonestBelow.{elements-of}
 use Rattle.magnetar_protocol.proofs.Soundness.{soundness}
@@ -124,9 +124,15 @@ small-sized = record {
 }
 
 -- ---- the batch
+pub small-laid : NoBitOutside small smallBatch
+unfolding outside within offsets offsetsFrom nextMultiple
+small-laid u zero h k o = absurd (false≢true o)
+small-laid u (suc zero) h k o = absurd (false≢true o)
+small-laid u (suc (suc y)) h k o = absurd (omega arith)
+
 pub small-good : Good small smallBatch smallColumns
 unfolding Satisfied assignment timesAt rowTotal sumOver share _⊗_ _⊕_ sumTimes timesX
-small-good = record { bin = bin; fld = fld }
+small-good = record { clear = small-laid; bin = bin; fld = fld }
   where
     bin : Satisfied (small .bin) 2 smallBatch smallColumns
     bin zero zero h k = refl
@@ -151,15 +157,9 @@ pub exchanged-not-good : Good small smallBatch exchanged → ⊥
 unfolding Satisfied assignment timesAt rowTotal sumOver share _⊗_ _⊕_ sumTimes timesX
 exchanged-not-good g = let e : _≡_ {A = ℕ} 9 5 = g .fld 0 0 (lit< tt) (lit< tt) in omega arith
 
-pub small-laid : NoBitOutside small smallBatch
-unfolding outside within offsets offsetsFrom nextMultiple
-small-laid u zero h k o = absurd (false≢true o)
-small-laid u (suc zero) h k o = absurd (false≢true o)
-small-laid u (suc (suc y)) h k o = absurd (omega arith)
-
--- so the honest proof of this batch are accepted, and the claims are true
+-- so the honest proof of this batch is accepted, and the claims are true
 pub small-complete : CompleteRun small smallBatch smallColumns smallDraws
-small-complete = completeness small smallBatch smallColumns smallDraws small-sized small-good small-laid
+small-complete = completeness small smallBatch smallColumns smallDraws small-sized small-good
 
 -- and the theorem on an accepted run speaks of these words: all that it draws holds of them
 pub small-sound : Good small smallBatch smallColumns ⊎ BadDraw small smallBatch smallColumns (proverProof small smallBatch smallColumns smallDraws) smallDraws

@@ -1,4 +1,4 @@
--- A batch is good where it is good in the theory: (Az)(Bz) + Cz is zero in each row of each login.
+-- A batch with no bit outside is good where it is good in the theory: (Az)(Bz) + Cz is zero in each row of each login.
 -- Assumes nothing.
 use mathlib.Core.Path.{_≡_, refl, sym, ap, ap₂, _∙_, subst}
 use mathlib.Core.List.{List, [], _∷_, _++_}
@@ -11,7 +11,7 @@ use Rattle.magnetar_field.specs.Sizes.{log₂}
 use Rattle.magnetar_field.proofs.Xor.{⊕-lt, ⊕-self, eq-of-⊕}
 use Rattle.magnetar_field.proofs.Product.{⊗-lt}
 use Rattle.magnetar_matrix.specs.Matrix.{System, timesAt}
-use Rattle.magnetar_matrix.specs.Batch.{Relation, Batch, PublicColumns, publicHalf, assignment, Satisfied, Good}
+use Rattle.magnetar_matrix.specs.Batch.{Relation, Batch, PublicColumns, publicHalf, assignment, Satisfied, NoBitOutside, Good}
 use Rattle.magnetar_theory.specs.Tau.{Zeros}
 use Rattle.magnetar_theory.specs.Matrix.{apply, applyAll}
 use Rattle.magnetar_theory.specs.Outer.{rowValues}
@@ -153,9 +153,10 @@ module _ (r : Relation) (b : Batch) (x : PublicColumns) (R : SizedRelation r) (B
   as-many : length x ≡ length b
   as-many = X .logins ∙ sym (B .logins)
 
-  pub good : GoodE (relationE r) (publicE x) (batchE b) → Good r b x
+  pub good : NoBitOutside r b → GoodE (relationE r) (publicE x) (batchE b) → Good r b x
   unfolding Satisfied assignment
-  good g = record {
+  good none g = record {
+    clear = none;
     bin = λ u i k l. logins-hold (r .bin) (2 ^ log₂ (r .bin .a .rows)) x b as-many (g .0) u i (omega (arith, B .logins))
         (omega (arith, R .bin .rows .power));
     fld = λ u i k l. logins-hold (r .fld) (2 ^ log₂ (r .fld .a .rows)) x b as-many (g .1) u i (omega (arith, B .logins))

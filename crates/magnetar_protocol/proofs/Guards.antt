@@ -3,23 +3,20 @@
 use mathlib.Core.Path.{_≡_, refl, sym, _∙_}
 use mathlib.Core.Bool.{Bool, true, false, not}
 use mathlib.Core.List.{List, [], _∷_}
-use Prim.Native.Nat.{ℕ, zero, suc, _+_, _*_, _/_, _^_, _≤_}
+use Prim.Native.Nat.{ℕ, _*_, _/_, _≤_}
 use Prim.{⊥}
-use native.Mathlib.Nat.{two-pow-succ}
 use native.Mathlib.Omega.{arith}
 use lib.Dec.{ltb}
 use lib.ListN.{length}
 use borrow.Author.Tests.{not-false, ltb-false, ne-eqb}
-use Rattle.magnetar_field.specs.Sizes.{log₂}
 use Rattle.magnetar_layout.specs.Tests.{orRefuse, firstRefusal, isSize, sizeTests, rowsTests, layoutTests, mostColumns, mostLogins, mostRows, mostBatchRows, mostSegments, Sized}
 use Rattle.magnetar_layout.specs.Entries.{layoutRefusal}
 use Rattle.magnetar_layout.specs.Layout.{LayoutFits}
-use Rattle.magnetar_layout.proofs.Laid.{sound}
+use Rattle.magnetar_layout.proofs.Laid.{sound, layout-own}
 use Rattle.magnetar_layout.proofs.FirstRefusal.{note-kept, note-clear, first-refusal-clear, first-refusal-front, first-refusal-late}
-use Rattle.magnetar_layout.proofs.SizeLaws.{sized, not-bad}
+use Rattle.magnetar_layout.proofs.SizeLaws.{not-bad}
 use Rattle.magnetar_protocol.specs.RunTests.{runTests, outlineTests}
 use Rattle.magnetar_protocol.specs.Scratch.{verifierScratch, proverScratch, verifierScratchWords, proverScratchWords}
-use Rattle.magnetar_protocol.specs.declared.scratch.ScratchWords.{ScratchWords}
 
 pub record Logins (m q : ℕ) : Type 0 where
   pub columns : Sized 2 mostColumns m
@@ -68,22 +65,6 @@ counts-given m q b f z e h =
     }
 
 -- ---- the layout over half the columns
--- a size that is a power of two of at least two is even
-pub even-size : (m : ℕ) → Sized 2 mostColumns m → 2 * (m / 2) ≡ m
-even-size m z = go (log₂ m) (z .power)
-  where
-    go : (k : ℕ) → m ≡ 2 ^ k → 2 * (m / 2) ≡ m
-    go zero e = absurd (omega (arith, z .low))
-    go (suc k) e =
-        let q : m ≡ 2 ^ k + 2 ^ k = e ∙ two-pow-succ k in
-        let h : m / 2 ≡ 2 ^ k = omega (arith, q) in
-        omega (arith, q, h)
-
--- where the columns are good, the layout's refusal is that of its own tests
-pub layout-own : (m : ℕ) (ns : List ℕ) → isSize 2 mostColumns m ≡ true → layoutRefusal (m / 2) ns ≡ firstRefusal 0 (layoutTests (m / 2) ns)
-unfolding layoutRefusal orRefuse
-layout-own m ns h = rw (even-size m (sized 2 mostColumns m h), h)
-
 module _ (m q b f : ℕ) (ns : List ℕ) where
   pub outline-size : (z : ℕ) → z ≡ firstRefusal 0 (runTests m q b f) → (z ≡ 0 → ⊥) → z ≡ firstRefusal 0 (outlineTests m q b f ns)
   outline-size z e h = first-refusal-front (runTests m q b f) (layoutTests (m / 2) ns) z e h

@@ -11,7 +11,7 @@ use lib.ListN.{length, getD, take, drop, length-map, length-take, length-drop}
 use lib.Seq.{getD-take, getD-drop}
 use Rattle.magnetar_field.specs.Sizes.{log₂}
 use Rattle.magnetar_layout.specs.Every.{every}
-use Rattle.magnetar_matrix.specs.Batch.{Relation, Batch, bitOf}
+use Rattle.magnetar_matrix.specs.Batch.{Relation, Batch, bitOf, NoBitOutside}
 use Rattle.magnetar_layout.specs.Layout.{nextMultiple, offsetsFrom, endFrom, offsets, layoutEnd, isLength, within, outside}
 use Rattle.magnetar_theory.specs.Tau.{Zeros}
 use Rattle.magnetar_theory.specs.Segment.{Segment, offset, ZeroOutside}
@@ -19,9 +19,9 @@ use Rattle.magnetar_theory.specs.Run.{AllZeroOutside}
 use Rattle.magnetar_theory.specs.Gf128.{Element, element, gf128}
 use Rattle.magnetar_protocol.specs.Theory.{els, batchE, segmentsE}
 use Rattle.magnetar_protocol.specs.RunSizes.{SizedRelation, SizedBatch}
-use Rattle.magnetar_protocol.specs.Soundness.{NoBitOutside}
 use Rattle.magnetar_protocol.proofs.Elements.{els-at}
-use Rattle.magnetar_protocol.proofs.LayoutLaws.{first-length, next-least, next-aligned, end-least, none-below}
+use Rattle.magnetar_layout.proofs.Laid.{next-least, end-least}
+use Rattle.magnetar_layout.proofs.Places.{first-length, next-aligned, none-below}
 
 zeros-of : (t : List Element) → ((i : ℕ) → i < length t → getD t i (element 0) ≡ element 0) → Zeros gf128 t
 zeros-of [] h = tt

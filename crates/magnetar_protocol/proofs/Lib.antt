@@ -3,7 +3,6 @@ pub mod Elements
 pub mod Passed
 pub mod Products
 pub mod GoodBatch
-pub mod LayoutLaws
 pub mod ClaimValues
 pub mod LaidOut
 pub mod Pieces
@@ -26,8 +25,10 @@ pub mod HonestRun
 pub mod Completeness
 pub mod EqualColumns
 pub mod Examples
+pub mod ExampleStray
 pub mod ExampleRun
 pub mod ExampleLie
+pub mod ExampleUnseen
 pub mod Splits
 pub mod Guards
 pub mod Finding

@@ -23,7 +23,8 @@ use Rattle.magnetar_protocol.specs.Draws.{Draws, lowPoint}
 use Rattle.magnetar_protocol.specs.Checks.{segmentSum}
 use Rattle.magnetar_protocol.specs.RunSizes.{SizedRelation}
 use Rattle.magnetar_protocol.proofs.Elements.{els-at, map-drop}
-use Rattle.magnetar_protocol.proofs.LayoutLaws.{placed, offsets-length}
+use Rattle.magnetar_layout.proofs.Places.{placed}
+use Rattle.magnetar_layout.proofs.Laid.{offsets-length}
 use Rattle.magnetar_protocol.proofs.SizeFacts.{half-pow, Cut, low-size}
 
 -- 2 ^ k at most 2 ^ h
@@ -62,7 +63,7 @@ module _ (r : Relation) (D : Draws) (R : SizedRelation r) (C : Cut r D) where
     where
       nothing : (i : ℕ) → length (r .lengths) ≤ i → segSum gf128 (segmentsE (drop i (offsets (r .lengths))) (drop i (r .lengths)))
           (els (lowPoint r D)) [] ≡ element 0
-      nothing i k = rw (drop-of-length-le (offsets (r .lengths)) {i = i} (unfold offsets in rw (offsets-length 0 (r .lengths)) k))
+      nothing i k = rw (drop-of-length-le (offsets (r .lengths)) {i = i} (rw (offsets-length (r .lengths)) k))
   sum-from i (v ∷ vs) h =
       ap₂ (λ (os ns : List ℕ). segSum gf128 (segmentsE os ns) (els (lowPoint r D)) (element v ∷ els vs))
       (drop-cons (offsets (r .lengths)) i 0 (many (omega arith))) (drop-cons (r .lengths) i 0 (omega arith))
@@ -71,7 +72,7 @@ module _ (r : Relation) (D : Draws) (R : SizedRelation r) (C : Cut r D) where
       ∙ sym (element-⊕ _ (segmentSum (r .lengths) (lowPoint r D) (suc i) vs))
     where
       many : i < length (r .lengths) → i < length (offsets (r .lengths))
-      many k = unfold offsets in rw (offsets-length 0 (r .lengths)) k
+      many k = rw (offsets-length (r .lengths)) k
 
       first : (i : ℕ) → i < length (r .lengths) → getD (eqTableE gf128 (drop (log₂ (getD (r .lengths) i 0)) (els (lowPoint r D))))
           (offset (r .lengths) i / getD (r .lengths) i 0) (element 0)

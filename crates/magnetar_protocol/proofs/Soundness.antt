@@ -136,5 +136,5 @@ module _ (r : Relation) (b : Batch) (x : PublicColumns) (w d : List ℕ) where
           (true-claims r b D R (S .run .batch) C w (S .words) (true-values r R D C (segmentValues r w) b true))))
 
       go : Found (logLogins r) (els d) → Good r b x ⊎ BadDraw r b x w d
-      go (inl g) = inl (good r b x R (S .run .batch) (S .run .public) g)
+      go (inl g) = inl (good r b x R (S .run .batch) (S .run .public) stray g)
       go (inr h) = inr (as-numbers (S .run .elements-d) h)

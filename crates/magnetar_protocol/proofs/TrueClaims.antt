@@ -7,7 +7,7 @@ use native.Mathlib.Omega.{arith}
 use lib.ListN.{length, getD, take, drop, length-map, length-drop, length-reverse}
 use lib.Seq.{length-take-le}
 use Rattle.magnetar_field.specs.Sizes.{log₂}
-use Rattle.magnetar_matrix.specs.Batch.{Relation, Batch, PublicColumns}
+use Rattle.magnetar_matrix.specs.Batch.{Relation, Batch, PublicColumns, NoBitOutside}
 use Rattle.magnetar_layout.specs.Layout.{offsets, offset}
 use Rattle.magnetar_theory.specs.EqTable.{eqTable as eqTableE, dot as dotE}
 use Rattle.magnetar_theory.specs.Matrix.{AllLength}
@@ -19,9 +19,9 @@ use Rattle.magnetar_protocol.specs.Draws.{Draws, loginPoint, lowPoint}
 use Rattle.magnetar_protocol.specs.Run.{trueValue}
 use Rattle.magnetar_protocol.specs.Theory.{els, logHalf, segmentsE, relationE, publicE, batchE, drawsE, proofE}
 use Rattle.magnetar_protocol.specs.RunSizes.{SizedRelation, SizedBatch, SizedPublic}
-use Rattle.magnetar_protocol.specs.Soundness.{NoBitOutside}
 use Rattle.magnetar_protocol.proofs.Elements.{map-take, map-reverse}
-use Rattle.magnetar_protocol.proofs.LayoutLaws.{Placed, placed, offsets-length}
+use Rattle.magnetar_layout.proofs.Laid.{offsets-length}
+use Rattle.magnetar_layout.proofs.Places.{Placed, placed}
 use Rattle.magnetar_protocol.proofs.ClaimValues.{claim-is, values-are}
 use Rattle.magnetar_protocol.proofs.LaidOut.{laid-out}
 use Rattle.magnetar_protocol.proofs.Pieces.{values-of}
@@ -117,4 +117,4 @@ module _ (r : Relation) (b : Batch) (D : Draws) (R : SizedRelation r) (B : Sized
     true-claims t =
         values-of r w (cols-suc r R)
         ∙ values-are (trueValueE gf128 (drawsE r D) (batchE b)) (offsets (r .lengths)) (r .lengths) (segmentValues r w)
-        (unfold offsets in offsets-length 0 (r .lengths)) values-length (λ i h. ap element (t i h) ∙ true-is i h)
+        (offsets-length (r .lengths)) values-length (λ i h. ap element (t i h) ∙ true-is i h)

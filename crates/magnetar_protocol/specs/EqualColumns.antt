@@ -1,7 +1,8 @@
 -- Where all logins have the same public columns c, every definition gives what it gave while one list of public columns was lent for all of
 -- them: the half (1, c) stands in the place of each login's own half and of the folded half. So the former statement of a run is the case of
 -- equal columns of the present one. Each statement is the type of the law that it names, in proofs/EqualColumns.
--- Source: document 01, "Matrices and layout" (z = (w, 1, x)) and "The run"; document 02, U6 (where all logins' columns are equal).
+-- Source: document 01, "Matrices and layout" (z = (w, 1, x)) and "The run"; document 02, U3 (a good batch has no bit outside) and U6 (where
+-- all logins' columns are equal).
 -- Assumes nothing.
 use mathlib.Core.Path.{_≡_}
 use mathlib.Core.List.{List, [], _∷_, _++_, map}
@@ -12,7 +13,7 @@ use Rattle.magnetar_multilinear.specs.Multilinear.{mle}
 use Rattle.magnetar_sumcheck_verifier.specs.Messages.{outerStart, outerMessages, innerMessages}
 use Rattle.magnetar_matrix.specs.Sum.{blocks}
 use Rattle.magnetar_matrix.specs.Matrix.{Matrix, System, timesAt, times}
-use Rattle.magnetar_matrix.specs.Batch.{Relation, Batch, PublicColumns, Good, batchProducts, folded, publicFolded}
+use Rattle.magnetar_matrix.specs.Batch.{Relation, Batch, PublicColumns, NoBitOutside, Good, batchProducts, folded, publicFolded}
 use Rattle.magnetar_theory.specs.Run.{vectors}
 use Rattle.magnetar_theory.specs.Gf128.{Element, gf128}
 use Rattle.magnetar_protocol.specs.Shape.{logLogins}
@@ -43,9 +44,9 @@ SharedSatisfied s q b c =
     → timesAt (s .a) (sharedZ b c u) i ⊗ timesAt (s .b) (sharedZ b c u) i ≡ timesAt (s .c) (sharedZ b c u) i
 
 abbrev pub SharedGood : Relation → Batch → List ℕ → Type 0
-SharedGood r b c = SharedSatisfied (r .bin) (r .q) b c × SharedSatisfied (r .fld) (r .q) b c
+SharedGood r b c = NoBitOutside r b × SharedSatisfied (r .bin) (r .q) b c × SharedSatisfied (r .fld) (r .q) b c
 
--- `good-equal`: the batch is good exactly when each row holds for each login with that half
+-- `good-equal`: the batch is good exactly when no bit is outside and each row holds for each login with that half
 abbrev pub GoodEqual : (r : Relation) (b : Batch) (c : List ℕ) → Type 0
 GoodEqual r b c = (Good r b (equalColumns (r .q) c) → SharedGood r b c) × (SharedGood r b c → Good r b (equalColumns (r .q) c))
 

@@ -1,23 +1,16 @@
--- What the theorem on an accepted run speaks of: bits outside the segments, and the lists of bad draws, one definition for every
--- draw of a run. Nothing here mentions a hash or a transcript.
--- Source: document 01, "The run" (outside; demand 3's lists).
+-- What the theorem on an accepted run speaks of: the lists of bad draws, one definition for every draw of a run. Nothing here mentions a
+-- hash or a transcript.
+-- Source: document 01, "The run" (demand 3's lists).
 -- Assumes nothing.
-use mathlib.Core.Path.{_≡_}
-use mathlib.Core.Bool.{true}
 use mathlib.Core.List.{List, map, List·Memᴰ}
-use Prim.Native.Nat.{ℕ, _/_, _<_, _≤_}
+use Prim.Native.Nat.{ℕ, _<_, _≤_}
 use lib.ListN.{length, getD, take}
-use Rattle.magnetar_matrix.specs.Batch.{Relation, Batch, PublicColumns, bitOf}
-use Rattle.magnetar_layout.specs.Layout.{outside}
+use Rattle.magnetar_matrix.specs.Batch.{Relation, Batch, PublicColumns}
 use Rattle.magnetar_theory.specs.Lists.{lists}
 use Rattle.magnetar_theory.specs.Absorbed.{absorbedCount}
 use Rattle.magnetar_theory.specs.Gf128.{number, gf128}
 use Rattle.magnetar_protocol.specs.Shape.{logLogins, logBin, logFld}
 use Rattle.magnetar_protocol.specs.Theory.{els, relationE, publicE, batchE}
-
--- no bit is outside: none is set at a column that lies in no segment
-abbrev pub NoBitOutside : Relation → Batch → Type 0
-NoBitOutside r b = (u y : ℕ) → u < r .q → y < r .m / 2 → outside (r .lengths) y ≡ true → bitOf b u y ≡ 0
 
 -- the list of the next draw, from the relation, the batch, the public columns, the proof's elements absorbed so far, and the
 -- draws so far

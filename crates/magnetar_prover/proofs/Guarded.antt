@@ -19,7 +19,7 @@ use Rattle.magnetar_layout.proofs.Laid.{sound, each-size}
 use Rattle.magnetar_r1cs.proofs.Points.{log-most}
 use Rattle.magnetar_layout.proofs.Readings.{log-le}
 use Rattle.magnetar_protocol.specs.RunTests.{counterTests}
-use Rattle.magnetar_protocol.proofs.Guards.{even-size}
+use Rattle.magnetar_layout.proofs.Laid.{even-size}
 use Rattle.magnetar_prover.specs.InScratch.{Locals}
 use Rattle.magnetar_prover.specs.Entries.{innerRoundsRefusal}
 

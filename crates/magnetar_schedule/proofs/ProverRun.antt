@@ -35,7 +35,7 @@ use Rattle.magnetar_protocol.specs.Prover.{joined, interleaved, productTable, o
 use Rattle.magnetar_schedule.specs.Stepwise.{segmentValue}
 use Rattle.magnetar_schedule.specs.RealRun.{verifierDraws, proverDraws, proverTranscript, sentProof}
 use Rattle.magnetar_schedule.proofs.Proving.{productTables, outerDraws, proving}
-use Rattle.magnetar_protocol.proofs.LayoutLaws.{Placed, placed}
+use Rattle.magnetar_layout.proofs.Places.{Placed, placed}
 use Rattle.magnetar_protocol.proofs.SegmentSums.{pow-le}
 use Rattle.magnetar_protocol.proofs.SizeFacts.{cols-suc, half-pow, Cut, low-size}
 use Rattle.magnetar_protocol.proofs.HonestTables.{product-length, foldedZ-length}

@@ -14,7 +14,7 @@ use Rattle.magnetar_schedule.specs.Schedule.{Event, schedule}
 use Rattle.magnetar_schedule.specs.ScheduleRun.{runFrom}
 use Rattle.magnetar_protocol.specs.Run.{verdict, claims, ClaimsTrue}
 use Rattle.magnetar_protocol.specs.RunSizes.{SizedRelation, SizedBatch, Elements}
-use Rattle.magnetar_protocol.specs.Soundness.{NoBitOutside, badDraws, absorbedBefore, BadDraw}
+use Rattle.magnetar_protocol.specs.Soundness.{badDraws, absorbedBefore, BadDraw}
 use Rattle.magnetar_protocol.specs.Prover.{proverClaims, CompleteRun}
 use Rattle.magnetar_schedule.specs.RealRun.{verifierDraws, verifierTranscript, proverDraws, proverTranscript, sentProof, Agrees}
 use Rattle.magnetar_protocol.proofs.Soundness.{soundness, all-lists}
@@ -47,9 +47,9 @@ pub lists-run : (r : Relation) (b : Batch) (x : PublicColumns) (w : List ℕ) (t
     ≤ 4 * (logLogins r + max (logBin r) (logFld r)) + 1 + 2 * logCols r
 lists-run r b x w t R = all-lists r b x w (verifierDraws r w t) R (verifier-count r w t)
 
--- Of a good batch with no bit outside the segments, the verifier who is given the prover's proof and the same transcript agrees.
+-- Of a good batch, the verifier who is given the prover's proof and the same transcript agrees.
 pub completeness-run : CompletenessRun
-completeness-run r b x t R B X g stray = record {
+completeness-run r b x t R B X g = record {
   same-draws = drawn;
   accepted = accepts;
   same-claims = ap (claims r (sentProof r b x t)) drawn ∙ claimed;
@@ -64,7 +64,7 @@ completeness-run r b x t R B X g stray = record {
       public = X;
       draws = prover-count r b x t;
       elements-d = prover-elements r b x t;
-    }) g stray
+    }) g
 
     drawn : verifierDraws r (sentProof r b x t) t ≡ proverDraws r b x t
     drawn = drawn-again r b x t

@@ -1,6 +1,6 @@
 -- What is proved of the schedule, and of runs with their transcript: each statement is the type of the law that it names.
--- Source: document 01, "The run" (both halves of demand 3, for the draws of the transcript); document 02, U6 (with every login's own public
--- columns).
+-- Source: document 01, "The run" (both halves of demand 3, for the draws of the transcript); document 02, U3 (a good batch needs no
+-- separate premise on bits outside) and U6 (with every login's own public columns).
 -- Assumes nothing.
 use mathlib.Core.Path.{_≡_}
 use mathlib.Core.Logic.{_⊎_}
@@ -8,12 +8,12 @@ use mathlib.Core.List.{List}
 use Prim.Native.Nat.{ℕ, _<_}
 use lib.ListN.{length}
 use Rattle.magnetar_hash.specs.declared.transcript.Transcript.{Transcript}
-use Rattle.magnetar_matrix.specs.Batch.{Relation, Batch, PublicColumns, Good}
+use Rattle.magnetar_matrix.specs.Batch.{Relation, Batch, PublicColumns, NoBitOutside, Good}
 use Rattle.magnetar_protocol.specs.Shape.{proofElements}
 use Rattle.magnetar_protocol.specs.Draws.{drawCount}
 use Rattle.magnetar_protocol.specs.Run.{verdict, claims, ClaimsTrue}
 use Rattle.magnetar_protocol.specs.RunSizes.{SizedRelation, SizedBatch, SizedPublic, Elements}
-use Rattle.magnetar_protocol.specs.Soundness.{NoBitOutside, absorbedBefore, BadDraw}
+use Rattle.magnetar_protocol.specs.Soundness.{absorbedBefore, BadDraw}
 use Rattle.magnetar_schedule.specs.Schedule.{schedule, absorbedUntil, InOrder}
 use Rattle.magnetar_schedule.specs.RealRun.{verifierDraws, sentProof, proverDraws, Agrees}
 
@@ -43,7 +43,6 @@ CompletenessRun =
     (r : Relation) (b : Batch) (x : PublicColumns) (t : Transcript)
     → SizedRelation r → SizedBatch r b → SizedPublic r x
     → Good r b x
-    → NoBitOutside r b
     → Agrees r b x t
 
 -- ---- the prover's draws

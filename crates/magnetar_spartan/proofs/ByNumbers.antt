@@ -12,9 +12,7 @@ use Rattle.magnetar_layout.proofs.FirstRefusal.{note-kept, first-refusal-kept, 
 use Rattle.magnetar_layout.proofs.SizeLaws.{not-bad}
 use Rattle.magnetar_protocol.specs.RunTests.{runTests}
 use Rattle.magnetar_protocol.proofs.Guards.{verifier-within, prover-within}
-use Rattle.magnetar_matrix.specs.Matrix.{Entry}
-use Rattle.magnetar_relation.specs.declared.shapes.Shapes.{Shapes}
-use Rattle.magnetar_relation.specs.Rules.{Rules, relationOf, rulesOver, inRelation}
+use Rattle.magnetar_relation.specs.Rules.{Rules, relationOf}
 use Rattle.magnetar_relation.specs.RuleTests.{ruleTests}
 use Rattle.magnetar_protocol.specs.RunTests.{counterTests, proofTests}
 use Rattle.magnetar_spartan.specs.Refusals.{rowsBin, rowsFld, sizesOnlyOf, proofWords, claimWords, verifierScratchOf, proverScratchOf, verifyTests, proveTests}
@@ -106,9 +104,3 @@ module _ (R : Rules) (z : ℕ) (e : z ≡ firstRefusal 0 (ruleTests R)) where
           let k = first-refusal-clear 0 (sizeTests (R .m) (R .q) ++ (packedTests (R .m / 2) (R .q) ws ++ publicTests (R .m) (R .q) x)) refl h .1 in
           let r = prover-within (R .m) (R .q) (rowsBin R) (rowsFld R) (sizes-none (k .0) (k .1 .0) f) in
           rw r
-
--- ---- the rules' own number does not depend on the segment lengths
-pub over-free : (m q : ℕ) (ns : List ℕ) (s : Shapes) (es : List Entry)
-    → firstRefusal 0 (ruleTests (rulesOver m q [] s es)) ≡ firstRefusal 0 (ruleTests (rulesOver m q ns s es))
-unfolding inRelation
-over-free m q ns s es = refl

@@ -11,7 +11,7 @@ use native.Mathlib.Omega.{arith}
 use Rattle.magnetar_layout.specs.Tests.{orRefuse, firstRefusal, isSize, layoutTests, Sized}
 use Rattle.magnetar_layout.specs.Entries.{layoutRefusal}
 use Rattle.magnetar_layout.specs.Login.{loginWords}
-use Rattle.magnetar_protocol.proofs.Guards.{even-size}
+use Rattle.magnetar_layout.proofs.Laid.{even-size}
 
 -- a login of at most 32768 columns has at most 512 words
 pub login-most : (w : ℕ) → w ≤ 32768 → loginWords w ≤ 512

@@ -20,7 +20,6 @@ use Rattle.magnetar_matrix.proofs.TableLaws.{elements-words}
 use Rattle.magnetar_matrix.proofs.LoginParts.{bit-unpacked}
 use Rattle.magnetar_protocol.specs.Run.{claims, verdict, ClaimsTrue}
 use Rattle.magnetar_protocol.specs.RunSizes.{SizedRelation, SizedBatch, SizedPublic}
-use Rattle.magnetar_protocol.specs.Soundness.{NoBitOutside}
 use Rattle.magnetar_protocol.specs.Prover.{proverProof, proverClaims}
 use Rattle.magnetar_schedule.specs.RealRun.{verifierDraws, verifierTranscript, proverDraws, proverTranscript, sentProof, Agrees}
 use Rattle.magnetar_schedule.proofs.ProverDraws.{sent-length}
@@ -141,9 +140,9 @@ module _ (R : Rules) (ws x : List ℕ) (t : Transcript) (w c s : List ℕ) where
 
   -- wherever neither end is refused by 1 to 16
   verify-complete : (c′ s′ : List ℕ) → AreWords x → proveRefusal R ws x t w c s ≡ 0 → verifyRefusal R x handed t c′ s′ ≡ 0
-      → Good (relationOf R) (batchOf R ws) (columnsOf R x) → NoBitOutside (relationOf R) (batchOf R ws)
+      → Good (relationOf R) (batchOf R ws) (columnsOf R x)
       → let o = proveOutcome R ws x t w c s in AcceptedBy R ws x t (o .proof) (o .claims) (o .transcript) c′ s′
-  verify-complete c′ s′ wx hp hv good stray =
+  verify-complete c′ s′ wx hp hv good =
       record { accepted = accepted; same-claims = same; true-claims = subst (ClaimsTrue r b) held (agrees .true-claims); same-transcript = ends }
     where
       r : Relation
@@ -153,7 +152,7 @@ module _ (R : Rules) (ws x : List ℕ) (t : Transcript) (w c s : List ℕ) where
       b = batchOf R ws
 
       agrees : Agrees r b (columnsOf R x) t
-      agrees = completeness-run r b (columnsOf R x) t (relation wx hp) (sized-batch R ws) (public wx hp) good stray
+      agrees = completeness-run r b (columnsOf R x) t (relation wx hp) (sized-batch R ws) (public wx hp) good
 
       given : elements handed ≡ sent
       given = ap elements (handed-is hp (size wx hp)) ∙ elements-words sent
@@ -194,7 +193,7 @@ not-refused R ws x t w c s e = go (eqb (proveRefusal R ws x t w c s) 0) refl
 -- the theorem, of what the function leaves
 pub proved-call : (R : Rules) (ws x : List ℕ) (t : Transcript) (w c s : List ℕ) (o : Proved) → AreWords x
     → o ≡ proveOutcome R ws x t w c s → o .code ≡ 0 → ProvedCall R ws x t (o .proof) (o .claims) (o .transcript)
-proved-call R ws x t w c s o wx e z good stray c′ s′ hc hs =
+proved-call R ws x t w c s o wx e z good c′ s′ hc hs =
     let none : proveRefusal R ws x t w c s ≡ 0 = not-refused R ws x t w c s (ap (λ (p : Proved). p .code) (sym e) ∙ z) in
     subst (λ (p : Proved). AcceptedBy R ws x t (p .proof) (p .claims) (p .transcript) c′ s′) (sym e)
-    (verify-complete R ws x t w c s c′ s′ wx none (verify-unrefused R ws x t w c s c′ s′ wx none hc hs) good stray)
+    (verify-complete R ws x t w c s c′ s′ wx none (verify-unrefused R ws x t w c s c′ s′ wx none hc hs) good)

@@ -25,7 +25,7 @@ use Rattle.magnetar_schedule.specs.Stepwise.{Steps, begin, innerRun, segmentVal
 use Rattle.magnetar_schedule.proofs.Stepwise.{goes-inner, inner-drawn-length, inner-sent-length}
 use Rattle.magnetar_protocol.proofs.Guards.{prover-within}
 use Rattle.magnetar_prover.specs.Entries.{innerRoundsRefusal, innerRunSteps, answerFor, proofFor, drawsFor, scratchFor}
-use Rattle.magnetar_protocol.proofs.Guards.{even-size}
+use Rattle.magnetar_layout.proofs.Laid.{even-size}
 use Rattle.magnetar_protocol.specs.RunTests.{counterTests, runTests, outlineTests, drawTests, proofTests}
 use Rattle.magnetar_verifier.specs.Claims.{claimsRefusal, claimsOut}
 use Rattle.magnetar_relation.specs.Rules.{Rules}

@@ -26,7 +26,7 @@ use Rattle.magnetar_batch.proofs.Rooms.{back-part, back-put}
 use Rattle.magnetar_protocol.specs.RunSizes.{SizedSystem}
 use Rattle.magnetar_prover.specs.Entries.{tableAt, blockWords, tablesOf}
 use Rattle.magnetar_prover.proofs.Slots.{take-of-drop, mid-length, mid-before, mid-behind, mid-at, mid-back, fore-length, fore-back}
-use Rattle.magnetar_protocol.proofs.Guards.{even-size}
+use Rattle.magnetar_layout.proofs.Laid.{even-size}
 use Rattle.magnetar_relation.specs.declared.shapes.SystemShape.{SystemShape}
 use Rattle.magnetar_relation.specs.declared.shapes.Shapes.{Shapes}
 use Rattle.magnetar_relation.specs.Rules.{Rules, rulesOver, relationOf, systemAt, entriesIn}

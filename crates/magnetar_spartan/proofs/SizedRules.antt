@@ -9,7 +9,7 @@ use lib.Dec.{eqb, ltb}
 use lib.ListN.{length, drop, length-take}
 use borrow.Author.Tests.{ltb-false, eqb-true, not-false}
 use Rattle.magnetar_layout.proofs.Laid.{half-power}
-use Rattle.magnetar_protocol.proofs.Guards.{even-size}
+use Rattle.magnetar_layout.proofs.Laid.{even-size}
 use Rattle.magnetar_layout.specs.Every.{every}
 use Rattle.magnetar_layout.specs.Layout.{LayoutFits, isLength, layoutEnd}
 use Rattle.magnetar_layout.specs.Tests.{Tests, Sized, mostSegments, sizeTests, rowsTests, layoutTests}

@@ -57,8 +57,7 @@ verifyClaims R x w t c =
 
 -- the outcome of `verify_virtual_spartan`: public words x, proof words w, transcript t, claims c, scratch s
 unfoldable pub verifyOutcome : Rules → (x w : List ℕ) → Transcript → (c s : List ℕ) → Verified
-verifyOutcome R x w t c s =
-    unlessRefused (verifyRefusal R x w t c s)
+verifyOutcome R x w t c s = unlessRefused (verifyRefusal R x w t c s)
     (record {
       code = verifyVerdict R x w t;
       transcript = verifierTranscript (relationOf R) (columnsOf R x) (elements w) t;

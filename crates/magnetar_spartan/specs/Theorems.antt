@@ -1,5 +1,6 @@
 -- The two theorems on both entries, as their contracts say them, and the laws beside them.
--- Source: document 01, "The run" (both halves of demand 3).
+-- Source: document 01, "The run" (both halves of demand 3); document 02, U3 (a good batch needs no separate premise on bits outside; an
+-- accepted proof keeps it).
 -- Assumes nothing.
 use mathlib.Core.Path.{_≡_}
 use mathlib.Core.Logic.{_⊎_}
@@ -8,14 +9,14 @@ use Prim.Native.Nat.{ℕ, _^_, _≤_}
 use lib.ListN.{length, take, replicate}
 use Rattle.magnetar_field.specs.Words.{elements}
 use Rattle.magnetar_hash.specs.declared.transcript.Transcript.{Transcript}
-use Rattle.magnetar_matrix.specs.Batch.{Batch, Good}
+use Rattle.magnetar_matrix.specs.Batch.{Batch, NoBitOutside, Good}
 use Rattle.magnetar_matrix.specs.Packed.{publicWords, publicOf}
 use Rattle.magnetar_protocol.specs.EqualColumns.{equalColumns}
 use Rattle.magnetar_protocol.specs.Prover.{joined}
 use Rattle.magnetar_protocol.specs.Draws.{drawCount}
 use Rattle.magnetar_protocol.specs.Run.{claims, verdict, ClaimsTrue}
 use Rattle.magnetar_protocol.specs.RunSizes.{SizedBatch, EachBelow, Elements}
-use Rattle.magnetar_protocol.specs.Soundness.{NoBitOutside, BadDraw}
+use Rattle.magnetar_protocol.specs.Soundness.{BadDraw}
 use Rattle.magnetar_schedule.specs.RealRun.{verifierDraws}
 use Rattle.magnetar_relation.specs.Rules.{Rules, relationOf}
 use Rattle.magnetar_spartan.specs.Refusals.{claimWords, proofWords, verifierScratchOf}
@@ -30,8 +31,7 @@ AreWords l = EachBelow (2 ^ 64) l
 -- of the right sizes with no bit set outside the segments, of which the claims are true: it is good, or some draw of the transcript
 -- lies in its list of at most three.
 abbrev pub AcceptedCall : Rules → (x w : List ℕ) → Transcript → (c : List ℕ) → Type 0
-AcceptedCall R x w t c =
-    (b : Batch) → SizedBatch (relationOf R) b → NoBitOutside (relationOf R) b
+AcceptedCall R x w t c = (b : Batch) → SizedBatch (relationOf R) b → NoBitOutside (relationOf R) b
     → ClaimsTrue (relationOf R) b (elements (take (claimWords R) c))
     → Good (relationOf R) b (columnsOf R x) ⊎ BadDraw (relationOf R) b (columnsOf R x) (elements w) (verifierDraws (relationOf R) (elements w) t)
 
@@ -45,11 +45,10 @@ pub record AcceptedBy (R : Rules) (ws x : List ℕ) (t : Transcript) (w c : List
   pub same-transcript : verifyOutcome R x (take (proofWords R) w) t c′ s′ .transcript ≡ u
 
 -- What an answer of 0 of the prover says, for packed words ws, public words x, transcript t, and the proof buffer w, the claims buffer c and
--- the transcript u at exit: where the batch is good and has no bit set outside the segments, every verifier with room enough accepts.
+-- the transcript u at exit: where the batch is good, every verifier with room enough accepts.
 abbrev pub ProvedCall : Rules → (ws x : List ℕ) → Transcript → (w c : List ℕ) → Transcript → Type 0
-ProvedCall R ws x t w c u =
-    Good (relationOf R) (batchOf R ws) (columnsOf R x) → NoBitOutside (relationOf R) (batchOf R ws)
-    → (c′ s′ : List ℕ) → claimWords R ≤ length c′ → verifierScratchOf R ≤ length s′ → AcceptedBy R ws x t w c u c′ s′
+ProvedCall R ws x t w c u = Good (relationOf R) (batchOf R ws) (columnsOf R x) → (c′ s′ : List ℕ)
+    → claimWords R ≤ length c′ → verifierScratchOf R ≤ length s′ → AcceptedBy R ws x t w c u c′ s′
 
 -- ---- laws beside them
 -- For any draws (proofs/Sound `verify-sound-any`): wherever the verifier refuses by none of 1 to 16, whatever elements d stand in the place of

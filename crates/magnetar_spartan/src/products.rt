@@ -71,7 +71,7 @@ pub(crate) fn part_of(k: usize, q: usize, sh: Shapes, h: usize) -> Part
     }
     let f = sh.fld;
     let p = 4 * product_words(q, b.a.rows);
-    part_in(k - 4, q, f, p, range::past(b, 0, h), h)
+    part_in(k - 4, q, f, p, range::ends_of(sh, h).binc, h)
 }
 
 // Makes table k.

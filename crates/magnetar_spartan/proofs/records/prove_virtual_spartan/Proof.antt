@@ -45,7 +45,8 @@ use denote.Triple.Table.{entered, cited}
 use denote.Triple.Walked.{says, needs, Stays, stay-ref, stay-none, stay-none-ref, stay-slice, stay-none-slice, walkOf, goes-ref, goes-none, goes-none-ref, goes-slice, goes-none-slice, Walks, ends-at, walked, walk-meets}
 use denote.Triple.Clauses.{Lasts, lasts, atExit}
 use denote.Exit.{yes}
-use Rattle.magnetar_spartan.proofs.ByNumbers.{over-free}
+use Rattle.magnetar_relation.proofs.RuleLaws.{over-free}
+use Rattle.magnetar_layout.specs.Tests.{firstRefusal}
 use Rattle.magnetar_spartan.proofs.ProveRun.{number}
 use Rattle.magnetar_relation.specs.Rules.{rulesOver}
 use Rattle.magnetar_records.specs.Records.{entriesOfRecords}
@@ -1086,8 +1087,8 @@ module _ {M : Type 1} (𝓤 : URA M) (H : Heap 𝓤) (A : Atoms 𝓤) (W : Given
             ),
           ),
         ) (tt, (same3b, (same3c, (same3d, (tt, (tt, (tt, (tt, (tt, (tt, (tt, tt)))))))))))) $ says ! (e3 (number
-        (rulesOver n5 n6 (s7 .now) n8 (entriesOfRecords (s9 .now))) (s10 .now) (s11 .now) ys2 ys3 ys4 h1 r1 r2 (e1 ∙ over-free n5 n6 (s7 .now) n8
-        (entriesOfRecords (s9 .now))) e2)) $
+        (rulesOver n5 n6 (s7 .now) n8 (entriesOfRecords (s9 .now))) (s10 .now) (s11 .now) ys2 ys3 ys4 h1 r1 r2 (e1 ∙ ap (firstRefusal 0)
+        (over-free n5 n6 (s7 .now) n8 (entriesOfRecords (s9 .now)))) e2)) $
         nothing ! $ move ! (9 ∷ 0 ∷ []) $ join ! $ move ! (9 ∷ 0 ∷ []) $ join ! $ move ! (9 ∷ 0 ∷ []) $ join ! $ move ! (9 ∷ 0 ∷ []) $ join ! $ move
         ! (4 ∷ 0 ∷ []) $ join ! $ move ! (5 ∷ 0 ∷ []) $ join ! $ move ! (6 ∷ 0 ∷ []) $ join ! $ move ! (2 ∷ 0 ∷ []) $ join ! $ nothing ! $ move !
         (6 ∷ 0 ∷ []) $ fjoin ! $ move ! (6 ∷ 0 ∷ []) $ fjoin ! $ move ! (6 ∷ 0 ∷ []) $ fjoin ! $ move ! (7 ∷ 0 ∷ []) $ fjoin ! $ move ! (6 ∷ 0 ∷

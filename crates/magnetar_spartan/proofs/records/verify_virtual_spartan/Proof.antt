@@ -45,7 +45,8 @@ use denote.Triple.Table.{entered, cited}
 use denote.Triple.Walked.{says, needs, Stays, stay-ref, stay-none, stay-none-ref, stay-slice, stay-none-slice, walkOf, goes-ref, goes-none, goes-none-ref, goes-slice, goes-none-slice, Walks, ends-at, walked, walk-meets}
 use denote.Triple.Clauses.{Lasts, lasts, atExit}
 use denote.Exit.{yes}
-use Rattle.magnetar_spartan.proofs.ByNumbers.{over-free}
+use Rattle.magnetar_relation.proofs.RuleLaws.{over-free}
+use Rattle.magnetar_layout.specs.Tests.{firstRefusal}
 use Rattle.magnetar_relation.specs.Rules.{rulesOver}
 use Rattle.magnetar_records.specs.Records.{entriesOfRecords}
 use Rattle.magnetar_hash.specs.declared.transcript.Transcript.{Transcript}
@@ -733,7 +734,7 @@ module _ {M : Type 1} (𝓤 : URA M) (H : Heap 𝓤) (A : Atoms 𝓤) (W : Given
               ),
             ),
           ),
-        )) $ says ! (e2 (e1 ∙ over-free n4 n5 (s6 .now) n7 (entriesOfRecords (s8 .now)))) $
+        )) $ says ! (e2 (e1 ∙ ap (firstRefusal 0) (over-free n4 n5 (s6 .now) n7 (entriesOfRecords (s8 .now))))) $
         nothing ! $ move ! (7 ∷ 0 ∷ []) $ join ! $ move ! (7 ∷ 0 ∷ []) $ join ! $ move ! (7 ∷ 0 ∷ []) $ join ! $ move ! (7 ∷ 0 ∷ []) $ join ! $ move
         ! (4 ∷ 0 ∷ []) $ join ! $ move ! (5 ∷ 0 ∷ []) $ join ! $ move ! (2 ∷ 0 ∷ []) $ join ! $ nothing ! $ move ! (5 ∷ 0 ∷ []) $ fjoin ! $ move
         ! (5 ∷ 0 ∷ []) $ fjoin ! $ move ! (5 ∷ 0 ∷ []) $ fjoin ! $ move ! (6 ∷ 0 ∷ []) $ fjoin ! $ move ! (5 ∷ 0 ∷ []) $ fjoin ! $ move ! (5 ∷ 0
