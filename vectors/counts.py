@@ -57,8 +57,9 @@ def has_own(case):
 
 
 def relations():
-    """The queries on relations and how many of these have unequal public columns: all, those that the core alone was asked, and how the runs end."""
-    answers, at, cases, own = lines("magnetar_cases", "stdout"), 0, 0, 0
+    """The queries on relations and how many of these have unequal public columns: all, those that the core alone was asked, how the runs end,
+    and what the row check says."""
+    answers, at, cases, own, verdicts = lines("magnetar_cases", "stdout"), 0, 0, 0, collections.Counter()
     all_, alone, codes = collections.Counter(), collections.Counter(), collections.defaultdict(collections.Counter)
     for query in lines("magnetar_cases", "stdin"):
         op = query.split()[0]
@@ -74,9 +75,10 @@ def relations():
                 at += 1
             code, length = found(answers[at:]) if op == "checks" else (number(answers[at]), LINES[op])
             codes[op][code] += 1
+            verdicts[answers[at].split()[1] if op == "check" else None] += code == 0
             at += length
     assert at == len(answers)
-    return cases, own, all_, alone, codes
+    return cases, own, all_, alone, codes, verdicts
 
 
 def columns():
@@ -100,8 +102,8 @@ def rows():
     parts = [sum(singly[name] for name in names.split()) for names in (FIELD, HASH, SUMCHECK, MATRIX)]
     assert sum(parts) == sum(singly.values()), singly
     yield f"| `magnetar_vectors` | {thousands(sum(parts))}: field {parts[0]}, hash {parts[1]}, sum-checks {parts[2]}, matrices, folds and layouts {parts[3]} |"
-    cases, own, asked, alone, codes = relations()
-    yield f"| `magnetar_cases` | {thousands(sum(asked.values()))} on {cases} relations: {of(asked, LINES)}; {own} relations with public columns of each login's own |"
+    cases, own, asked, alone, codes, verdicts = relations()
+    yield f"| `magnetar_cases` | {thousands(sum(asked.values()))} on {thousands(cases)} relations: {of(asked, LINES)}; {own} relations with public columns of each login's own |"
     both = [name for name in LINES if name != "checks"]
     records = {name: asked[name] - alone[name] for name in both}
     yield f"| of these also over records | {thousands(sum(records.values()))}: {of(records, both)}; the other {sum(alone.values())} of these kinds are answered after a line `alone`: the four lists are of unequal length, or of more than 384 entries |"
@@ -118,6 +120,9 @@ def rows():
     assert set(late) == set(range(21, 30)) and max(prove) == 15
     yield f"| of the {asked['prove']} runs of the prover | {prove[0]} proofs; {early['prove']} refused with 1 to 15 |"
     yield f"| of the {asked['verify']} runs of the verifier | {verify[0]} accepted; {early['verify']} refused with 1 to 16; {sum(late.values())} refused with 21 to 29, each number at least {min(late.values())} times |"
+    check = codes["check"]
+    assert set(check) == {*range(11), 15}
+    yield f"| of the {asked['check']} row checks | {verdicts['good']} good; {verdicts['stray']} a stray bit; {verdicts['bin'] + verdicts['fld']} a failing row; {early['check']} refused with 1 to 10 and 15 |"
     given = codes["checks"]
     assert set(given) == {0} | set(range(21, 30))
     yield f"| of the {asked['checks']} runs of the verifier's checks with given draws | {given[0]} find nothing; the others find each number from 21 to 29 |"

@@ -10,10 +10,12 @@ as its formula goes, and the refusals are document 01's.
 import sys
 
 sys.dont_write_bytecode = True
-from cases import Case, Room, Runs, Sheet, checked, flipped, numbers, shared_product, shortly
+from cases import Case, Room, Runs, Sheet, checked, flipped, numbers, shared_product, shortly, with_lens
 from make import MARK, TOP, listed
 
 MOST, STEP, TERMS = 65536, 0x9E3779B97F4A7C15, 512
+# Segments that leave out the last column: 32,767 columns.
+SHORT = [1 << k for k in range(14, -1, -1)]
 UNTOUCHED = int(MARK, 0)
 # How many words the program lends.
 TABLE, SCRATCH, CLAIMS, PRODUCTS = 2 * MOST, 8 * MOST + 128, 40, 20
@@ -102,8 +104,9 @@ class Told:
         return code
 
     def whole(self, case):
-        """The row check and both ends; the numbers of the verifier's answers, the second after a bit of the proof is turned."""
-        self.line("row check", checked(self.sheet, case).removeprefix("= "), self.lent("scratch", SCRATCH, [0] * (6 * 4)))
+        """The row checks and both ends; the numbers of the verifier's answers, the second after a bit of the proof is turned."""
+        for name, lens in [("row check", case.lens), ("last column out", SHORT)]:
+            self.line(name, checked(self.sheet, with_lens(case, lens)).removeprefix("= "), self.lent("scratch", SCRATCH, [0] * (6 * 4)))
         found, room = self.runs.asked(case, self.start), Room(case)
         proof, claims = numbers(found["proof"])[1:], numbers(found["claims"])[1:]
         assert len(proof) == room.proof == 124 + 16 * case.q
@@ -140,6 +143,7 @@ class Told:
         self.line("fold", 1, self.lent("folded", TABLE), self.lent("scratch", 6))
         self.line("combined table", 1, self.lent("table", TABLE), scratch)
         self.line("row check", 1, scratch)
+        self.line("last column out", 1, scratch)
         self.run("prove", 1, self.start, self.lent("proof", 140), claims, scratch)
         self.run("verify", 1, self.start, claims, scratch)
         self.run("verify", 1, self.start, claims, scratch)

@@ -7,7 +7,7 @@ use crate::text::at_size;
 use crate::text::first_sizes;
 use crate::text::{self};
 use crate::told;
-use magnetar_batch::check::RowCheck;
+use magnetar_check::check::RowCheck;
 use magnetar_hash::transcript::Transcript;
 use magnetar_hash::transcript::TranscriptAnswer;
 use magnetar_records::records::Entry;
@@ -182,7 +182,7 @@ pub(crate) fn verify(
 struct Said {
     kind: usize,
     login: usize,
-    row: usize,
+    place: usize,
 }
 
 fn place(r: RowCheck) -> Said {
@@ -190,22 +190,27 @@ fn place(r: RowCheck) -> Said {
         RowCheck::Good => Said {
             kind: 0,
             login: 0,
-            row: 0,
+            place: 0,
+        },
+        RowCheck::Stray(u, y) => Said {
+            kind: 4,
+            login: u,
+            place: y,
         },
         RowCheck::Bin(u, i) => Said {
             kind: 1,
             login: u,
-            row: i,
+            place: i,
         },
         RowCheck::Fld(u, i) => Said {
             kind: 2,
             login: u,
-            row: i,
+            place: i,
         },
         RowCheck::Refused(code) => Said {
             kind: 3,
             login: code as usize,
-            row: 0,
+            place: 0,
         },
     }
 }
@@ -213,7 +218,7 @@ fn place(r: RowCheck) -> Said {
 fn same_said(a: Said, b: Said) -> bool {
     if a.kind == b.kind {
         if a.login == b.login {
-            return a.row == b.row;
+            return a.place == b.place;
         }
     }
     false
@@ -231,6 +236,7 @@ pub(crate) fn check(given: &[u64], sizes: &[usize], r: RowCheck, scratch: &[u64]
         s,
         told::m(sizes),
         told::q(sizes),
+        told::lens(sizes),
         told::shapes(sizes),
         records(given, sizes),
         n,

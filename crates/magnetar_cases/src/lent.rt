@@ -6,13 +6,13 @@ ghost use Prim.Native.Nat.{min};
 ghost use lib.ListN.{take};
 ghost use Rattle.magnetar_r1cs.specs.Entries.{masksRefusal, masksOut};
 ghost use Rattle.magnetar_relation.specs.Rules.{rulesOver};
-ghost use Rattle.magnetar_batch.specs.Check.{checked, checkOutcome};
+ghost use Rattle.magnetar_check.specs.Check.{checked, checkOutcome};
 ghost use Rattle.magnetar_batch.specs.Entries.{combined, comboOutcome};
 ghost use Rattle.magnetar_spartan.specs.Outcome.{verified, verifyOutcome, proved, proveOutcome};
 ghost use Rattle.magnetar_records.specs.Records.{lentOf, entriesOfRecords};
-use magnetar_batch::check::RowCheck;
-use magnetar_batch::check_records as check;
 use magnetar_batch::combo_records as combo;
+use magnetar_check::check::RowCheck;
+use magnetar_check::check_records as check;
 use magnetar_field::sizes;
 use magnetar_hash::transcript::Transcript;
 use magnetar_hash::transcript::TranscriptAnswer;
@@ -67,6 +67,7 @@ pub(crate) fn check(
     scratch: &mut [u64],
     m: usize,
     q: usize,
+    lens: &[usize],
     sh: Shapes,
     es: [Entry; 384],
     n: usize,
@@ -74,11 +75,12 @@ pub(crate) fn check(
     x: &[u64],
 ) -> RowCheck
     ensures { λ r. ⌜ checked r (now (scratch .exit))
-        ≡ checkOutcome (rulesOver m q [] sh (entriesOfRecords (take (min n 384) es))) (now (packed .entry)) (now (x .entry)) (now (scratch .entry)) ⌝ }
+        ≡ checkOutcome (rulesOver m q (now (lens .entry)) sh (entriesOfRecords (take (min n 384) es))) (now (packed .entry)) (now (x .entry))
+        (now (scratch .entry)) ⌝ }
 {
     let most = 384;
     let k = sizes::least(n, most);
-    check::row_check(scratch, m, q, sh, &es[..k], packed, x)
+    check::row_check(scratch, m, q, lens, sh, &es[..k], packed, x)
 }
 
 // A number with a transcript.

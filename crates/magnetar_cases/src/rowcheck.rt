@@ -4,13 +4,13 @@ use crate::text::at;
 use crate::text::print;
 use crate::text::{self};
 use crate::told;
-use magnetar_batch::check;
-use magnetar_batch::check::RowCheck;
+use magnetar_check::check;
+use magnetar_check::check::RowCheck;
 
 // The query by name: its letters, the last one lowest.
 const CHECK: u64 = 0x636865636b;
 
-// The login and the row.
+// The login, and the row or column.
 fn print_place(u: usize, i: usize) {
     text::print_count(u);
     print(b" ");
@@ -27,6 +27,10 @@ fn print_refusal(code: u32) {
 fn print_verdict(r: RowCheck) {
     match r {
         RowCheck::Good => print(b"= good\n"),
+        RowCheck::Stray(u, y) => {
+            print(b"= stray ");
+            print_place(u, y);
+        }
         RowCheck::Bin(u, i) => {
             print(b"= bin ");
             print_place(u, i);
@@ -48,6 +52,7 @@ pub(crate) fn answered(op: u64, nums: &[u64], given: &[u64], sizes: &[usize]) ->
             part,
             told::m(sizes),
             told::q(sizes),
+            told::lens(sizes),
             told::shapes(sizes),
             told::row(sizes),
             told::col(sizes),

@@ -20,6 +20,25 @@ pub(crate) const STEP: u64 = 0x9e3779b97f4a7c15;
 // All segments together are all 32,768 bits of a login.
 pub(crate) const SEGMENTS: [usize; 3] = [16384, 8192, 8192];
 
+// All but the last bit.
+pub(crate) const SHORT: [usize; 15] = [
+    16384,
+    8192,
+    4096,
+    2048,
+    1024,
+    512,
+    256,
+    128,
+    64,
+    32,
+    16,
+    8,
+    4,
+    2,
+    1,
+];
+
 // Sets the words to w, w + step, w + 2 step and so on, modulo 2^64.
 pub(crate) fn fill(s: &mut [u64], w: u64, step: u64) {
     let mut v = w;

@@ -17,9 +17,9 @@ fn single(m: usize, q: usize, packed: &[u64], x: &[u64], out: &mut [u64], scratc
     tables::combined(m, out, scratch);
 }
 
-// The row check and both ends.
+// The row checks and both ends.
 fn whole(m: usize, q: usize, packed: &[u64], x: &[u64], scratch: &mut [u64]) {
-    runs::check(m, q, packed, x, scratch);
+    runs::checks(m, q, packed, x, scratch);
     runs::ends(m, q, packed, x, scratch);
 }
 

@@ -4,8 +4,8 @@ use crate::filled;
 use crate::filled::MARK;
 use crate::text;
 use crate::text::print;
-use magnetar_batch::check;
-use magnetar_batch::check::RowCheck;
+use magnetar_check::check;
+use magnetar_check::check::RowCheck;
 use magnetar_hash::transcript::TranscriptAnswer;
 use magnetar_spartan::virtual_spartan;
 
@@ -18,6 +18,10 @@ fn say_place(u: usize, i: usize) {
 fn say_verdict(r: RowCheck) {
     match r {
         RowCheck::Good => print(b"good"),
+        RowCheck::Stray(u, y) => {
+            print(b"stray ");
+            say_place(u, y);
+        }
         RowCheck::Bin(u, i) => {
             print(b"bin ");
             say_place(u, i);
@@ -30,7 +34,16 @@ fn say_verdict(r: RowCheck) {
     }
 }
 
-pub(crate) fn check(m: usize, q: usize, packed: &[u64], x: &[u64], scratch: &mut [u64]) {
+// The row check with these segments, after what it is called.
+fn check(
+    name: &[u8],
+    m: usize,
+    q: usize,
+    lens: &[usize],
+    packed: &[u64],
+    x: &[u64],
+    scratch: &mut [u64],
+) {
     let row = filled::rows();
     let col = filled::cols();
     let lo = filled::lows();
@@ -40,6 +53,7 @@ pub(crate) fn check(m: usize, q: usize, packed: &[u64], x: &[u64], scratch: &mut
         scratch,
         m,
         q,
+        lens,
         filled::shapes(m),
         &row,
         &col,
@@ -48,10 +62,32 @@ pub(crate) fn check(m: usize, q: usize, packed: &[u64], x: &[u64], scratch: &mut
         packed,
         x,
     );
-    print(b"  row check       ");
+    print(name);
     say_verdict(r);
     text::words(b"scratch", scratch);
     print(b"\n");
+}
+
+// The row check; then with segments that leave out the last column.
+pub(crate) fn checks(m: usize, q: usize, packed: &[u64], x: &[u64], scratch: &mut [u64]) {
+    check(
+        b"  row check       ",
+        m,
+        q,
+        &filled::SEGMENTS,
+        packed,
+        x,
+        scratch,
+    );
+    check(
+        b"  last column out ",
+        m,
+        q,
+        &filled::SHORT,
+        packed,
+        x,
+        scratch,
+    );
 }
 
 // What a run answers, and the transcript after it.

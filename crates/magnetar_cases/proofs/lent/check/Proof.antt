@@ -51,9 +51,9 @@ use Rattle.magnetar_relation.proofs.shapes.Shapes.Laws as lShapes
 use Rattle.magnetar_records.specs.declared.records.Entry.{Entry}
 use Rattle.magnetar_records.proofs.records.Entry as mEntry
 use Rattle.magnetar_records.proofs.records.Entry.Laws as lEntry
-use Rattle.magnetar_batch.specs.declared.check.RowCheck.{RowCheck}
-use Rattle.magnetar_batch.proofs.check.RowCheck as mRowCheck
-use Rattle.magnetar_batch.proofs.check.RowCheck.Laws as lRowCheck
+use Rattle.magnetar_check.specs.declared.check.RowCheck.{RowCheck}
+use Rattle.magnetar_check.proofs.check.RowCheck as mRowCheck
+use Rattle.magnetar_check.proofs.check.RowCheck.Laws as lRowCheck
 use types.SemTy.{Body}
 use types.Share.{parts, arr-parts}
 use lib.ListN.{take}
@@ -71,10 +71,10 @@ use Rattle.magnetar_field.proofs.sizes.least as g1
 use Rattle.magnetar_field.proofs.sizes.least.Symbol as g1-def
 use Rattle.magnetar_field.proofs.sizes.least.Symbol.{name as #g1}
 use Rattle.magnetar_field.proofs.sizes.least.Met as g1-thm
-use Rattle.magnetar_batch.proofs.check_records.row_check as g2
-use Rattle.magnetar_batch.proofs.check_records.row_check.Symbol as g2-def
-use Rattle.magnetar_batch.proofs.check_records.row_check.Symbol.{name as #g2}
-use Rattle.magnetar_batch.proofs.check_records.row_check.Met as g2-thm
+use Rattle.magnetar_check.proofs.check_records.row_check as g2
+use Rattle.magnetar_check.proofs.check_records.row_check.Symbol as g2-def
+use Rattle.magnetar_check.proofs.check_records.row_check.Symbol.{name as #g2}
+use Rattle.magnetar_check.proofs.check_records.row_check.Met as g2-thm
 use Rattle.magnetar_cases.proofs.lent.check.Key.{name as #f}
 use Rattle.magnetar_cases.proofs.lent.check as f
 use Rattle.magnetar_cases.proofs.lent.check.Statement as stated
@@ -100,14 +100,19 @@ stayed = (
     (
       stay-none (λ _. u64) yes,
       (
-        stay-none (λ _. mShapes.the-row) yes,
+        stay-none-slice (1 ∷ []) tt (plain (λ _.
+            u64)) yes,
         (
-          stay-none (λ _. (Array mEntry.the-row 384)) yes,
+          stay-none (λ _. mShapes.the-row) yes,
           (
-            stay-none (λ _. u64) yes,
+            stay-none (λ _. (Array mEntry.the-row 384)) yes,
             (
-              stay-none-slice (1 ∷ []) tt (plain (λ _. u64)) yes,
-              (stay-none-slice (2 ∷ []) tt (plain (λ _. u64)) yes, tt),
+              stay-none (λ _. u64) yes,
+              (
+                stay-none-slice
+                    (2 ∷ []) tt (plain (λ _. u64)) yes,
+                (stay-none-slice (3 ∷ []) tt (plain (λ _. u64)) yes, tt),
+              ),
             ),
           ),
         ),
@@ -122,9 +127,9 @@ Callee-g1 𝓤 H A mem run = tripleOf 𝓤 H A g1.signature (g1.spec 𝓤 H A me
 abbrev Callee-g2 : {M : Type 1} (𝓤 : URA M) (H : Heap 𝓤) (A : Atoms 𝓤) (mem : Memory → SProp 𝓤) (run : Routine → Fun 𝓤) → Contract 𝓤
 Callee-g2 𝓤 H A mem run = tripleOf 𝓤 H A g2.signature (g2.spec 𝓤 H A mem run)
 
-module _ {M : Type 1} (𝓤 : URA M) (H : Heap 𝓤) (A : Atoms 𝓤) (W : Given 𝓤 H A) (at-mem : Memory → SProp 𝓤) (run : Routine → Fun 𝓤) (κ₀ κ₁ κ₂ : Lft)
-    (q₀ q₁ q₂ : Share) (b1 o1 : ℕ) (γ1 : GName) (ys1 : List ℕ) (n2 : ℕ) (u2 : Val) (n3 : ℕ) (u3 : Val) (n4 : Shapes) (u4 : Val) (n5 : (List Entry))
-    (u5 : Val) (n6 : ℕ) (u6 : Val) (s7 : RefT (List ℕ)) (s8 : RefT (List ℕ)) where
+module _ {M : Type 1} (𝓤 : URA M) (H : Heap 𝓤) (A : Atoms 𝓤) (W : Given 𝓤 H A) (at-mem : Memory → SProp 𝓤) (run : Routine → Fun 𝓤) (κ₀ κ₁ κ₂ κ₃ :
+    Lft) (q₀ q₁ q₂ q₃ : Share) (b1 o1 : ℕ) (γ1 : GName) (ys1 : List ℕ) (n2 : ℕ) (u2 : Val) (n3 : ℕ) (u3 : Val) (s4 : RefT (List ℕ)) (n5 : Shapes) (u5
+    : Val) (n6 : (List Entry)) (u6 : Val) (n7 : ℕ) (u7 : Val) (s8 : RefT (List ℕ)) (s9 : RefT (List ℕ)) where
   abbrev ref1 : GName → List ℕ → RefT (List ℕ)
   ref1 δ l = record { ptr = (b1, o1); name = δ; now = l }
 
@@ -156,7 +161,10 @@ module _ {M : Type 1} (𝓤 : URA M) (H : Heap 𝓤) (A : Atoms 𝓤) (W : Given
   v3 = u3
 
   abbrev v4 : Val
-  v4 = u4
+  v4 = sliceVal (s4 .ptr) (length (s4 .now))
+
+  abbrev O4 : Fml
+  O4 = ShrSlice (named 1) κ₁ u64 .own s4 (v4 ∷ [])
 
   abbrev v5 : Val
   v5 = u5
@@ -165,10 +173,7 @@ module _ {M : Type 1} (𝓤 : URA M) (H : Heap 𝓤) (A : Atoms 𝓤) (W : Given
   v6 = u6
 
   abbrev v7 : Val
-  v7 = sliceVal (s7 .ptr) (length (s7 .now))
-
-  abbrev O7 : Fml
-  O7 = ShrSlice (named 1) κ₁ u64 .own s7 (v7 ∷ [])
+  v7 = u7
 
   abbrev v8 : Val
   v8 = sliceVal (s8 .ptr) (length (s8 .now))
@@ -176,262 +181,331 @@ module _ {M : Type 1} (𝓤 : URA M) (H : Heap 𝓤) (A : Atoms 𝓤) (W : Given
   abbrev O8 : Fml
   O8 = ShrSlice (named 2) κ₂ u64 .own s8 (v8 ∷ [])
 
+  abbrev v9 : Val
+  v9 = sliceVal (s9 .ptr) (length (s9 .now))
+
+  abbrev O9 : Fml
+  O9 = ShrSlice (named 3) κ₃ u64 .own s9 (v9 ∷ [])
+
   abbrev Arg : Type 0
-  Arg = (RefT (List ℕ) × (ℕ × (ℕ × (Shapes × ((List Entry) × (ℕ × (RefT (List ℕ) × (RefT (List ℕ) × Unit {0}))))))))
+  Arg = (RefT (List ℕ) × (ℕ × (ℕ × (RefT (List ℕ) × (Shapes × ((List Entry) × (ℕ × (RefT (List ℕ) × (RefT (List ℕ) × Unit {0})))))))))
 
   abbrev a : Arg
-  a = (ref1 γ1 ys1, (n2, (n3, (n4, (n5, (n6, (s7, (s8, tt))))))))
+  a = (ref1 γ1 ys1, (n2, (n3, (s4, (n5, (n6, (n7, (s8, (s9, tt)))))))))
 
-  abbrev at : (List Val × (List Val × (List Val × (List Val × (List Val × (List Val × (List Val × (List Val × Unit {0}))))))))
-  at = (v1 ∷ [], (v2 ∷ [], (v3 ∷ [], (v4 ∷ [], (v5 ∷ [], (v6 ∷ [], (v7 ∷ [], (v8 ∷ [], tt))))))))
+  abbrev at : (List Val × (List Val × (List Val × (List Val × (List Val × (List Val × (List Val × (List Val × (List Val × Unit {0})))))))))
+  at = (v1 ∷ [], (v2 ∷ [], (v3 ∷ [], (v4 ∷ [], (v5 ∷ [], (v6 ∷ [], (v7 ∷ [], (v8 ∷ [], (v9 ∷ [], tt)))))))))
 
   abbrev Post : Val → SProp 𝓤
-  Post = walkOf 𝓤 H A f.ended stayed (f.clauses 𝓤 H A at-mem run) .post (((κ₀, (κ₁, (κ₂, tt))), (q₀, (q₁, (q₂, tt))), tt, a, at), tt)
+  Post = walkOf 𝓤 H A f.ended stayed (f.clauses 𝓤 H A at-mem run) .post (((κ₀, (κ₁, (κ₂, (κ₃, tt)))), (q₀, (q₁, (q₂, (q₃, tt)))), tt, a, at), tt)
 
   module _ (C : Calls 𝓤 H) (Λ : Loops 𝓤 H) (fm : FmC 𝓤 H (W .laws) C) (known-g1 : Triple 𝓤 (C #g1) (Callee-g1 𝓤 H A at-mem run)) (known-g2 : Triple 𝓤
-      (C #g2) (Callee-g2 𝓤 H A at-mem run)) (room1 : Room u64 (length ys1)) (w2 : Is u64 n2 (u2 ∷ [])) (w3 : Is u64 n3 (u3 ∷ [])) (w4 : Is
-      mShapes.the-row n4 (u4 ∷ [])) (w5 : Is (Array mEntry.the-row 384) n5 (u5 ∷ [])) (w6 : Is u64 n6 (u6 ∷ [])) (w7 : Is (ShrSlice (named 1) κ₁ u64)
-      s7 (v7 ∷ [])) (w8 : Is (ShrSlice (named 2) κ₂ u64) s8 (v8 ∷ [])) where
-    walk : ent 𝓤 (onEntry 𝓤 H A f.signature (κ₀, (κ₁, (κ₂, tt))) (q₀, (q₁, (q₂, tt))) a at) (WpFn 𝓤 H C Λ code.function (v1 ∷ v2 ∷ v3 ∷ v4 ∷ v5 ∷ v6 ∷ v7 ∷ v8 ∷ []) Post)
+      (C #g2) (Callee-g2 𝓤 H A at-mem run)) (room1 : Room u64 (length ys1)) (w2 : Is u64 n2 (u2 ∷ [])) (w3 : Is u64 n3 (u3 ∷ [])) (w4 : Is (ShrSlice
+      (named 1) κ₁ u64) s4 (v4 ∷ [])) (w5 : Is mShapes.the-row n5 (u5 ∷ [])) (w6 : Is (Array mEntry.the-row 384) n6 (u6 ∷ [])) (w7 : Is u64 n7 (u7 ∷
+      [])) (w8 : Is (ShrSlice (named 2) κ₂ u64) s8 (v8 ∷ [])) (w9 : Is (ShrSlice (named 3) κ₃ u64) s9 (v9 ∷ [])) where
+    walk : ent 𝓤 (onEntry 𝓤 H A f.signature (κ₀, (κ₁, (κ₂, (κ₃, tt)))) (q₀, (q₁, (q₂, (q₃, tt)))) a at) (WpFn 𝓤 H C Λ code.function (v1 ∷ v2 ∷ v3 ∷ v4 ∷ v5 ∷ v6 ∷ v7 ∷ v8 ∷ v9 ∷ []) Post)
     walk =
-        qed W ((‵ (flft κ₀ q₀) ⊛ ‵ (flft κ₁ q₁) ⊛ ‵ (flft κ₂ q₂) ⊛ ‵ ftrue) ∷ ‵ (owns (MutSlice (named 0) κ₀ u64 ∷ u64 ∷ u64 ∷ mShapes.the-row ∷
-        (Array mEntry.the-row 384) ∷ u64 ∷ ShrSlice (named 1) κ₁ u64 ∷ ShrSlice (named 2) κ₂ u64 ∷ []) a at) ∷ []) ∵ enter ! C Λ code.function
-        (v1 ∷ v2 ∷ v3 ∷ v4 ∷ v5 ∷ v6 ∷ v7 ∷ v8 ∷ []) _ $
+        qed W ((‵ (flft κ₀ q₀) ⊛ ‵ (flft κ₁ q₁) ⊛ ‵ (flft κ₂ q₂) ⊛ ‵ (flft κ₃ q₃) ⊛ ‵ ftrue) ∷ ‵ (owns (MutSlice (named 0) κ₀ u64 ∷ u64 ∷ u64 ∷
+        ShrSlice (named 1) κ₁ u64 ∷ mShapes.the-row ∷ (Array mEntry.the-row 384) ∷ u64 ∷ ShrSlice (named 2) κ₂ u64 ∷ ShrSlice (named 3) κ₃ u64 ∷
+        []) a at) ∷ []) ∵ enter ! C Λ code.function (v1 ∷ v2 ∷ v3 ∷ v4 ∷ v5 ∷ v6 ∷ v7 ∷ v8 ∷ v9 ∷ []) _ $
         nothing ! $ alloc ! (λ l₀. alloc ! (λ l₁. alloc ! (λ l₂. alloc ! (λ l₃. alloc ! (λ l₄. alloc ! (λ l₅. alloc ! (λ l₆. alloc ! (λ l₇. alloc !
-        (λ l₈. alloc ! (λ l₉. alloc ! (λ l₁₀. alloc ! (λ l₁₁. alloc ! (λ l₁₂. alloc ! (λ l₁₃. alloc ! (λ l₁₄. alloc ! (λ l₁₅. alloc0 ! $ hide !
-        (λ died die. params1 ! $ pass1 ! (init ! 15 refl (tt, (tt, (record { fits = room1 .0 }, tt)))) $ pass1 ! (init ! 14 refl (uint-lawful 𝓤 H
-        A W w64 .typed n2 _ w2 .0)) $ pass1 ! (init ! 13 refl (uint-lawful 𝓤 H A W w64 .typed n3 _ w3 .0)) $ pass1 ! (init ! 12 refl (LL.lawful
-        mShapes.the-type lShapes.the-laws 𝓤 H A W .typed n4 _ w4 .0)) $ pass1 ! (init ! 11 refl (array-lawful 𝓤 H A W mEntry.the-row (LL.lawful
-        mEntry.the-type lEntry.the-laws 𝓤 H A W) 384 .typed n5 _ w5 .0)) $ pass1 ! (init ! 10 refl (uint-lawful 𝓤 H A W w64 .typed n6 _ w6 .0)) $
-        pass1 ! (init ! 9 refl (shr-slice-lawful 𝓤 H A W (named 1) κ₁ u64 .typed s7 (v7 ∷ []) w7 .0)) $ pass1 ! (init ! 8 refl (shr-slice-lawful
-        𝓤 H A W (named 2) κ₂ u64 .typed s8 (v8 ∷ []) w8 .0)) $ pass0 ! $
-        move ! (18 ∷ []) $ fsplit ! $ move ! (1 ∷ []) $ fsplit ! $ move ! (1 ∷ []) $ fsplit ! $ move ! (1 ∷ []) $ fsplit ! $ move ! (1 ∷ []) $ fsplit
-        ! $ move ! (1 ∷ []) $ fsplit ! $ move ! (1 ∷ []) $ fsplit ! $ move ! (1 ∷ []) $ fsplit ! $ move ! (1 ∷ []) $ drop ! $ move ! (25 ∷ []) $
-        split ! $ move ! (1 ∷ []) $ split ! $ move ! (1 ∷ []) $ split ! $ move ! (1 ∷ []) $ drop ! $ tidy W (_ ∷ _ ∷ _ ∷ _ ∷ _ ∷ _ ∷ _ ∷ _ ∷ _ ∷
-        _ ∷ _ ∷ _ ∷ _ ∷ _ ∷ _ ∷ _ ∷ _ ∷ _ ∷ _ ∷ _ ∷ _ ∷ _ ∷ _ ∷ _ ∷ _ ∷ _ ∷ _ ∷ _ ∷ []) $
-        assigns ! (of-opd ! (load ! (from ! (stop !)) (look ! 22 refl))) (from ! (stop !)) (init ! 18 refl (array-lawful 𝓤 H A W mEntry.the-row
-        (LL.lawful mEntry.the-type lEntry.the-laws 𝓤 H A W) 384 .typed n5 _ w5 .0)) $
-        assigns ! (of-opd ! (lit ! tt)) (from ! (stop !)) (init ! 17 refl (tt, record { fits = lit< tt })) $
-        tidy W (_ ∷ _ ∷ _ ∷ _ ∷ _ ∷ _ ∷ _ ∷ _ ∷ _ ∷ _ ∷ _ ∷ _ ∷ _ ∷ _ ∷ _ ∷ _ ∷ _ ∷ _ ∷ _ ∷ _ ∷ _ ∷ _ ∷ _ ∷ _ ∷ _ ∷ _ ∷ _ ∷ _ ∷ []) $ nothing ! $
+        (λ l₈. alloc ! (λ l₉. alloc ! (λ l₁₀. alloc ! (λ l₁₁. alloc ! (λ l₁₂. alloc ! (λ l₁₃. alloc ! (λ l₁₄. alloc ! (λ l₁₅. alloc ! (λ l₁₆.
+        alloc0 ! $ hide ! (λ died die. params1 ! $ pass1 ! (init ! 16 refl (tt, (tt, (record { fits = room1 .0 }, tt)))) $ pass1 ! (init ! 15
+        refl (uint-lawful 𝓤 H A W w64 .typed n2 _ w2 .0)) $ pass1 ! (init ! 14 refl (uint-lawful 𝓤 H A W w64 .typed n3 _ w3 .0)) $ pass1 ! (init
+        ! 13 refl (shr-slice-lawful 𝓤 H A W (named 1) κ₁ u64 .typed s4 (v4 ∷ []) w4 .0)) $ pass1 ! (init ! 12 refl (LL.lawful mShapes.the-type
+        lShapes.the-laws 𝓤 H A W .typed n5 _ w5 .0)) $ pass1 ! (init ! 11 refl (array-lawful 𝓤 H A W mEntry.the-row (LL.lawful mEntry.the-type
+        lEntry.the-laws 𝓤 H A W) 384 .typed n6 _ w6 .0)) $ pass1 ! (init ! 10 refl (uint-lawful 𝓤 H A W w64 .typed n7 _ w7 .0)) $ pass1 ! (init !
+        9 refl (shr-slice-lawful 𝓤 H A W (named 2) κ₂ u64 .typed s8 (v8 ∷ []) w8 .0)) $ pass1 ! (init ! 8 refl (shr-slice-lawful 𝓤 H A W (named
+        3) κ₃ u64 .typed s9 (v9 ∷ []) w9 .0)) $ pass0 ! $
+        move ! (19 ∷ []) $ fsplit ! $ move ! (1 ∷ []) $ fsplit ! $ move ! (1 ∷ []) $ fsplit ! $ move ! (1 ∷ []) $ fsplit ! $ move ! (1 ∷ []) $ fsplit
+        ! $ move ! (1 ∷ []) $ fsplit ! $ move ! (1 ∷ []) $ fsplit ! $ move ! (1 ∷ []) $ fsplit ! $ move ! (1 ∷ []) $ fsplit ! $ move ! (1 ∷ []) $
+        drop ! $ move ! (27 ∷ []) $ split ! $ move ! (1 ∷ []) $ split ! $ move ! (1 ∷ []) $ split ! $ move ! (1 ∷ []) $ split ! $ move ! (1 ∷ [])
+        $ drop ! $ tidy W (_ ∷ _ ∷ _ ∷ _ ∷ _ ∷ _ ∷ _ ∷ _ ∷ _ ∷ _ ∷ _ ∷ _ ∷ _ ∷ _ ∷ _ ∷ _ ∷ _ ∷ _ ∷ _ ∷ _ ∷ _ ∷ _ ∷ _ ∷ _ ∷ _ ∷ _ ∷ _ ∷ _ ∷ _ ∷ _
+        ∷ _ ∷ []) $
+        assigns ! (of-opd ! (load ! (from ! (stop !)) (look ! 24 refl))) (from ! (stop !)) (init ! 20 refl (array-lawful 𝓤 H A W mEntry.the-row
+        (LL.lawful mEntry.the-type lEntry.the-laws 𝓤 H A W) 384 .typed n6 _ w6 .0)) $
+        assigns ! (of-opd ! (lit ! tt)) (from ! (stop !)) (init ! 19 refl (tt, record { fits = lit< tt })) $
+        tidy W (_ ∷ _ ∷ _ ∷ _ ∷ _ ∷ _ ∷ _ ∷ _ ∷ _ ∷ _ ∷ _ ∷ _ ∷ _ ∷ _ ∷ _ ∷ _ ∷ _ ∷ _ ∷ _ ∷ _ ∷ _ ∷ _ ∷ _ ∷ _ ∷ _ ∷ _ ∷ _ ∷ _ ∷ _ ∷ _ ∷ _ ∷ []) $ nothing ! $
         -- call 1
-        use1 W (raw (Callee-g1 𝓤 H A at-mem run .pre ((tt, tt, tt, (n6, (384, tt)), (u6 ∷ [], ((vint w64 384) ∷ [], tt))), tt))) (qed W ((‵ ftrue) ∷
+        use1 W (raw (Callee-g1 𝓤 H A at-mem run .pre ((tt, tt, tt, (n7, (384, tt)), (u7 ∷ [], ((vint w64 384) ∷ [], tt))), tt))) (qed W ((‵ ftrue) ∷
         []) ∵ nothing ! $ owned ! u64 (Is u64) (uint-makes 𝓤 H A W w64) (384) _ (refl, lit< tt) $ fjoin ! $ owned ! u64 (Is u64) (uint-makes 𝓤 H
-        A W w64) (n6) _ w6 $ fjoin ! $ move ! (1 ∷ 0 ∷ []) $ join ! $ nothing ! $ move ! (1 ∷ 0 ∷ []) $ frame ! $ done !) $
-        calls-at ! fm (Callee-g1 𝓤 H A at-mem run) known-g1 ((tt, tt, tt, (n6, (384, tt)), (u6 ∷ [], ((vint w64 384) ∷ [], tt))), tt) (and-then !
-        (load ! (from ! (stop !)) (look ! 22 refl)) (and-then ! (load ! (from ! (stop !)) (look ! 18 refl)) (no-more !))) (λ z1.
-        use1 W (later (some (λ (r1 : ℕ). ((‵ ftrue) ⊛ ‵ (u64 .own r1 (z1 ∷ []))) ⊛ some (λ (ws : Lasts g1.ended tt (n6, (384, tt))). ‵ (lasts
-        g1.ended tt (n6, (384, tt)) ws) ⊛ raw (g1.clauses 𝓤 H A at-mem run tt (n6, (384, tt)) .ensures tt r1 (atExit g1.ended tt (n6, (384, tt))
+        A W w64) (n7) _ w7 $ fjoin ! $ move ! (1 ∷ 0 ∷ []) $ join ! $ nothing ! $ move ! (1 ∷ 0 ∷ []) $ frame ! $ done !) $
+        calls-at ! fm (Callee-g1 𝓤 H A at-mem run) known-g1 ((tt, tt, tt, (n7, (384, tt)), (u7 ∷ [], ((vint w64 384) ∷ [], tt))), tt) (and-then !
+        (load ! (from ! (stop !)) (look ! 24 refl)) (and-then ! (load ! (from ! (stop !)) (look ! 20 refl)) (no-more !))) (λ z1.
+        use1 W (later (some (λ (r1 : ℕ). ((‵ ftrue) ⊛ ‵ (u64 .own r1 (z1 ∷ []))) ⊛ some (λ (ws : Lasts g1.ended tt (n7, (384, tt))). ‵ (lasts
+        g1.ended tt (n7, (384, tt)) ws) ⊛ raw (g1.clauses 𝓤 H A at-mem run tt (n7, (384, tt)) .ensures tt r1 (atExit g1.ended tt (n7, (384, tt))
         ws)))))) (id⊢ 𝓤 _) $ await ! tt $ pick ! (λ r1. split ! $ move ! (1 ∷ []) $ pick ! (λ ws1. split ! $ move ! (1 ∷ []) $ heard ! _ (λ e1.
-        drop ! $ split ! $ move ! (1 ∷ []) $ peeks ! u64 (Is u64) (shows 𝓤 H A u64) r1 (z1 ∷ []) (λ i1. drop ! $ land ! (from ! (stop !)) (init ! 17 refl (uint-lawful 𝓤 H A W w64 .typed r1 _ i1 .0)) $
-        tidy W (_ ∷ _ ∷ _ ∷ _ ∷ _ ∷ _ ∷ _ ∷ _ ∷ _ ∷ _ ∷ _ ∷ _ ∷ _ ∷ _ ∷ _ ∷ _ ∷ _ ∷ _ ∷ _ ∷ _ ∷ _ ∷ _ ∷ _ ∷ _ ∷ _ ∷ _ ∷ _ ∷ _ ∷ _ ∷ []) $ drop ! $
-        assigns ! (addr ! (from ! (fld ! refl (hop ! (look-in ! 26 (sub ! 0 refl (whole !))) (stop !))))) (from ! (stop !)) (init ! 15 refl (
-          tt,
-          tt,
-        )) $
-        assigns ! (agg ! (and-then ! (load ! (from ! (stop !)) (look ! 15 refl)) (and-then ! (load ! (from ! (fld ! refl (stop !))) (look-in ! 26
-        (sub ! 1 refl (whole !)))) (no-more !)))) (from ! (stop !)) (init ! 14 refl (tt, (tt, (record { fits = room1 .0 }, tt)))) $
-        assigns ! (addr ! (from ! (stop !))) (from ! (stop !)) (init ! 13 refl (tt, tt)) $
-        rewrite ! 16 (λ (w : Val). ‵ (fat fullShare (tyInt w64) l₁₁ 0 w)) (ap only (i1 .0)) refl $ assigns ! (agg ! (and-then ! (load ! (from ! (stop
-        !)) (look ! 13 refl)) (and-then ! (load ! (from ! (stop !)) (look ! 16 refl)) (no-more !)))) (from ! (stop !)) (init ! 12 refl (
+        drop ! $ split ! $ move ! (1 ∷ []) $ peeks ! u64 (Is u64) (shows 𝓤 H A u64) r1 (z1 ∷ []) (λ i1. drop ! $ land ! (from ! (stop !)) (init ! 19 refl (uint-lawful 𝓤 H A W w64 .typed r1 _ i1 .0)) $
+        tidy W (_ ∷ _ ∷ _ ∷ _ ∷ _ ∷ _ ∷ _ ∷ _ ∷ _ ∷ _ ∷ _ ∷ _ ∷ _ ∷ _ ∷ _ ∷ _ ∷ _ ∷ _ ∷ _ ∷ _ ∷ _ ∷ _ ∷ _ ∷ _ ∷ _ ∷ _ ∷ _ ∷ _ ∷ _ ∷ _ ∷ _ ∷ _ ∷ []) $
+        drop ! $ assigns ! (addr ! (from ! (fld ! refl (hop ! (look-in ! 29 (sub ! 0 refl (whole !))) (stop !))))) (from ! (stop !)) (init ! 17
+        refl (tt, tt)) $
+        assigns ! (agg ! (and-then ! (load ! (from ! (stop !)) (look ! 17 refl)) (and-then ! (load ! (from ! (fld ! refl (stop !))) (look-in ! 29
+        (sub ! 1 refl (whole !)))) (no-more !)))) (from ! (stop !)) (init ! 16 refl (tt, (tt, (record { fits = room1 .0 }, tt)))) $
+        assigns ! (addr ! (from ! (stop !))) (from ! (stop !)) (init ! 15 refl (tt, tt)) $
+        rewrite ! 18 (λ (w : Val). ‵ (fat fullShare (tyInt w64) l₁₂ 0 w)) (ap only (i1 .0)) refl $ assigns ! (agg ! (and-then ! (load ! (from ! (stop
+        !)) (look ! 15 refl)) (and-then ! (load ! (from ! (stop !)) (look ! 18 refl)) (no-more !)))) (from ! (stop !)) (init ! 14 refl (
           tt,
           (
             tt,
             (record { fits = i1 .1 }, tt),
           ),
         )) $
-        lft-new ! tt (λ ν2a. move ! (11 ∷ 3 ∷ []) $ use2 W (later (some (λ (δ : GName). ‵ (MutSlice (named 0) (ν2a ∷ []) u64 .own (ref1 δ (ys1)) (v1
-        ∷ [])) ⊛ ‵ (Lent1 ν2a δ (ys1))))) (lends1 (named 0) ν2a (ys1) (refl)) $ await ! tt $ pick ! (λ δ2a. split ! $
-        lft-new ! tt (λ ν2e. owned ! (Array mEntry.the-row 384) (Is (Array mEntry.the-row 384)) (array-makes 𝓤 H A W mEntry.the-row (LL.makes
-        mEntry.the-type lEntry.the-plain 𝓤 H A) 384) (n5) _ w5 $ move ! (21 ∷ 0 ∷ []) $ use1 W (‵ (cellAt fullShare ((Array mEntry.the-row 384)
-        .mir) (u5 ∷ []) l₉ 0)) (W .laws .at-raw fullShare (tyArray (lEntry.mir) 384) l₉ 0 (u5)) $ into ! (Array mEntry.the-row 384) fullShare
-        (n5) (u5 ∷ []) l₉ 0 $
-        use1 W (‵ (arr-parts (shares mEntry.the-row) 384 .part fullShare (n5) l₉ 0)) (array-apart 𝓤 H A W mEntry.the-row fullShare tt 384 (n5) l₉ 0) $ fsplit ! $ feqL ! (λ ln2e.
-        use1 W (‵ (parts (mem mEntry.the-row) (shares mEntry.the-row) fullShare (take r1 (n5)) l₉ 0) ⊛ ‵ (rest mEntry.the-row fullShare r1 (n5) l₉
-        0)) (cut 𝓤 H A mEntry.the-row fullShare r1 (n5) l₉ 0) $ split ! $ feqI ! ℕ (length (take r1 (n5))) (length (take r1 (n5))) refl $ fjoin !
-        $
-        use1 W (later (some (λ (δ : GName). ‵ (ShrSlice (named 1) (ν2e ∷ []) mEntry.the-row .own (record {
-          ptr = (l₉, 0);
+        lft-new ! tt (λ ν2a. move ! (13 ∷ 4 ∷ []) $ use2 W (later (some (λ (δ : GName). ‵ (MutSlice (named 0) (ν2a ∷ []) u64 .own (ref1 δ (ys1)) (v1
+        ∷ [])) ⊛ ‵ (Lent1 ν2a δ (ys1))))) (lends1 (named 0) ν2a (ys1) (refl)) $ await ! tt $ pick ! (λ δ2a. split ! $ move ! (11 ∷ []) $ use1 W
+        (‵ (O4) ⊛ ‵ (O4)) (shr-slice-copy 𝓤 H A W (named 1) κ₁ u64 .twice s4 (v4 ∷ [])) $ split ! $
+        lft-new ! tt (λ ν2f. owned ! (Array mEntry.the-row 384) (Is (Array mEntry.the-row 384)) (array-makes 𝓤 H A W mEntry.the-row (LL.makes
+        mEntry.the-type lEntry.the-plain 𝓤 H A) 384) (n6) _ w6 $ move ! (24 ∷ 0 ∷ []) $ use1 W (‵ (cellAt fullShare ((Array mEntry.the-row 384)
+        .mir) (u6 ∷ []) l₁₀ 0)) (W .laws .at-raw fullShare (tyArray (lEntry.mir) 384) l₁₀ 0 (u6)) $ into ! (Array mEntry.the-row 384) fullShare
+        (n6) (u6 ∷ []) l₁₀ 0 $
+        use1 W (‵ (arr-parts (shares mEntry.the-row) 384 .part fullShare (n6) l₁₀ 0)) (array-apart 𝓤 H A W mEntry.the-row fullShare tt 384 (n6) l₁₀ 0) $ fsplit ! $ feqL ! (λ ln2f.
+        use1 W (‵ (parts (mem mEntry.the-row) (shares mEntry.the-row) fullShare (take r1 (n6)) l₁₀ 0) ⊛ ‵ (rest mEntry.the-row fullShare r1 (n6) l₁₀
+        0)) (cut 𝓤 H A mEntry.the-row fullShare r1 (n6) l₁₀ 0) $ split ! $ feqI ! ℕ (length (take r1 (n6))) (length (take r1 (n6))) refl $ fjoin
+        ! $
+        use1 W (later (some (λ (δ : GName). ‵ (ShrSlice (named 2) (ν2f ∷ []) mEntry.the-row .own (record {
+          ptr = (l₁₀, 0);
           name = δ;
           now = (take r1
-              (n5));
-        }) (sliceVal (l₉, 0) (length (take r1 (n5))) ∷ [])) ⊛ ‵ (flent (ν2e ∷ []) (arr-parts (shares mEntry.the-row) (length (take r1
-        (n5))) .part fullShare (take r1 (n5)) l₉ 0))))) (lends-shr-slice 𝓤 H A W mEntry.the-row (named 1) (ν2e ∷ []) fullShare (take r1 (n5)) l₉
-        0 (subst (Room mEntry.the-row) (sym (length-take-le r1 (n5) (subst (λ (m : ℕ). r1 ≤ m) (sym ln2e) ((e1 .1))))) (room-of mEntry.the-row r1
-        384 ((e1 .1)) (lit< tt, lit< tt)))) $ await ! tt $ pick ! (λ δ2e. split ! $ rewrite ! 0 (λ (m : ℕ). ‵ (ShrSlice (named 1) (ν2e ∷ [])
-        mEntry.the-row .own (record { ptr = (l₉, 0); name = δ2e; now = (take r1 (n5)) }) (sliceVal (l₉, 0) m ∷ []))) (length-take-le r1 (n5)
-        (subst (λ (m : ℕ). r1 ≤ m) (sym ln2e) ((e1 .1)))) refl $
-        move ! (10 ∷ []) $ use1 W (‵ (O7) ⊛ ‵ (O7)) (shr-slice-copy 𝓤 H A W (named 1) κ₁ u64 .twice s7 (v7 ∷ [])) $ split ! $ move ! (11 ∷ []) $ use1
-        W (‵ (O8) ⊛ ‵ (O8)) (shr-slice-copy 𝓤 H A W (named 2) κ₂ u64 .twice s8 (v8 ∷ [])) $ split ! $ tidy W (_ ∷ _ ∷ _ ∷ _ ∷ _ ∷ _ ∷ _ ∷ _ ∷ _ ∷
-        _ ∷ _ ∷ _ ∷ _ ∷ _ ∷ _ ∷ _ ∷ _ ∷ _ ∷ _ ∷ _ ∷ _ ∷ _ ∷ _ ∷ _ ∷ _ ∷ _ ∷ _ ∷ _ ∷ _ ∷ _ ∷ _ ∷ _ ∷ _ ∷ _ ∷ []) $ nothing ! $ move ! (12 ∷ 0 ∷
-        []) $ join ! $ move ! (12 ∷ 0 ∷ []) $ join ! $ move ! (8 ∷ 0 ∷ []) $ join ! $ move ! (10 ∷ 0 ∷ []) $ join ! $ move ! (3 ∷ 1 ∷ []) $ join
-        ! $ move ! (4 ∷ 0 ∷ []) $ join ! $ move ! (6 ∷ 0 ∷ []) $ join ! $ move ! (1 ∷ 0 ∷ []) $ join ! $
+              (n6));
+        }) (sliceVal (l₁₀, 0) (length (take r1 (n6))) ∷ [])) ⊛ ‵ (flent (ν2f ∷ []) (arr-parts (shares mEntry.the-row) (length (take r1
+        (n6))) .part fullShare (take r1 (n6)) l₁₀ 0))))) (lends-shr-slice 𝓤 H A W mEntry.the-row (named 2) (ν2f ∷ []) fullShare (take r1 (n6))
+        l₁₀ 0 (subst (Room mEntry.the-row) (sym (length-take-le r1 (n6) (subst (λ (m : ℕ). r1 ≤ m) (sym ln2f) ((e1 .1))))) (room-of
+        mEntry.the-row r1 384 ((e1 .1)) (lit< tt, lit< tt)))) $ await ! tt $ pick ! (λ δ2f. split ! $ rewrite ! 0 (λ (m : ℕ). ‵ (ShrSlice (named
+        2) (ν2f ∷ []) mEntry.the-row .own (record { ptr = (l₁₀, 0); name = δ2f; now = (take r1 (n6)) }) (sliceVal (l₁₀, 0) m ∷ [])))
+        (length-take-le r1 (n6) (subst (λ (m : ℕ). r1 ≤ m) (sym ln2f) ((e1 .1)))) refl $
+        move ! (13 ∷ []) $ use1 W (‵ (O8) ⊛ ‵ (O8)) (shr-slice-copy 𝓤 H A W (named 2) κ₂ u64 .twice s8 (v8 ∷ [])) $ split ! $ move ! (14 ∷ []) $ use1
+        W (‵ (O9) ⊛ ‵ (O9)) (shr-slice-copy 𝓤 H A W (named 3) κ₃ u64 .twice s9 (v9 ∷ [])) $ split ! $ tidy W (_ ∷ _ ∷ _ ∷ _ ∷ _ ∷ _ ∷ _ ∷ _ ∷ _ ∷
+        _ ∷ _ ∷ _ ∷ _ ∷ _ ∷ _ ∷ _ ∷ _ ∷ _ ∷ _ ∷ _ ∷ _ ∷ _ ∷ _ ∷ _ ∷ _ ∷ _ ∷ _ ∷ _ ∷ _ ∷ _ ∷ _ ∷ _ ∷ _ ∷ _ ∷ _ ∷ _ ∷ _ ∷ _ ∷ []) $ nothing ! $
+        move ! (14 ∷ 0 ∷ []) $ join ! $ move ! (14 ∷ 0 ∷ []) $ join ! $ move ! (8 ∷ 0 ∷ []) $ join ! $ move ! (13 ∷ 0 ∷ []) $ join ! $ move ! (12
+        ∷ 0 ∷ []) $ join ! $ move ! (3 ∷ 1 ∷ []) $ join ! $ move ! (4 ∷ 0 ∷ []) $ join ! $ move ! (6 ∷ 0 ∷ []) $ join ! $ move ! (7 ∷ 0 ∷ []) $
+        join ! $ move ! (1 ∷ 0 ∷ []) $ join ! $
         -- call 2
         use1 W (raw (Callee-g2 𝓤 H A at-mem run .pre (
           (
-            ((ν2a ∷ []), ((ν2e ∷ []), (κ₁, (κ₂, tt)))),
-            (fullShare, (fullShare, (q₁, (q₂, tt)))),
-            tt,
-            (ref1 δ2a (ys1), (n2, (n3, (n4, (record { ptr = (l₉, 0); name = δ2e; now = (take r1 (n5)) }, (s7, (s8, tt))))))),
+            ((ν2a ∷ []), (κ₁, ((ν2f ∷ []), (κ₂, (κ₃, tt))))),
             (
-              v1 ∷ [],
+              fullShare,
               (
-                u2 ∷ [],
+                q₁,
                 (
-                  u3
-                      ∷ [],
-                  (u4 ∷ [], (sliceVal (l₉, 0) r1 ∷ [], (v7 ∷ [], (v8 ∷ [], tt)))),
-                ),
-              ),
-            ),
-          ),
-          tt,
-        ))) (qed W ((‵ (flft (ν2a ∷ []) fullShare) ⊛ ‵ (flft (ν2e ∷
-        []) fullShare) ⊛ ‵ (flft κ₁ q₁) ⊛ ‵ (flft κ₂ q₂) ⊛ ‵ ftrue) ∷ ‵ (MutSlice (named 0) (ν2a ∷ []) u64 .own (ref1 δ2a (ys1)) (v1 ∷ [])) ∷ ‵
-        (ShrSlice (named 1) (ν2e ∷ []) mEntry.the-row .own (record { ptr = (l₉, 0); name = δ2e; now = (take r1 (n5)) }) (sliceVal (l₉, 0) r1 ∷
-        [])) ∷ ‵ (ShrSlice (named 2) κ₁ u64 .own s7 (v7 ∷ [])) ∷ ‵ (ShrSlice (named 3) κ₂ u64 .own s8 (v8 ∷ [])) ∷ []) ∵ nothing ! $ move ! (5 ∷
-        0 ∷ []) $ fjoin ! $ move ! (4 ∷ 0 ∷ []) $ fjoin ! $ move ! (3 ∷ 0 ∷ []) $ fjoin ! $ owned ! mShapes.the-row (Is mShapes.the-row)
-        (LL.makes mShapes.the-type lShapes.the-plain 𝓤 H A) (n4) _ w4 $ fjoin ! $ owned ! u64 (Is u64) (uint-makes 𝓤 H A W w64) (n3) _ w3 $ fjoin
-        ! $ owned ! u64 (Is u64) (uint-makes 𝓤 H A W w64) (n2) _ w2 $ fjoin ! $ move ! (2 ∷ 0 ∷ []) $ fjoin ! $ move ! (1 ∷ 0 ∷ []) $ join ! $
-        nothing ! $ move ! (1 ∷ 0 ∷ []) $ frame ! $ done !) $
-        calls-at ! fm (Callee-g2 𝓤 H A at-mem run) known-g2 (
-          (
-            ((ν2a ∷ []), ((ν2e ∷ []), (κ₁, (κ₂, tt)))),
-            (fullShare, (fullShare, (q₁, (q₂, tt)))),
-            tt,
-            (ref1 δ2a (ys1), (n2, (n3, (n4, (record { ptr = (l₉, 0); name = δ2e; now = (take r1 (n5)) }, (s7, (s8, tt))))))),
-            (
-              v1 ∷ [],
-              (
-                u2 ∷ [],
-                (u3 ∷ [], (u4 ∷ [], (sliceVal (l₉, 0) r1 ∷ [], (v7 ∷ [], (v8 ∷ [], tt))))),
-              ),
-            ),
-          ),
-          tt,
-        ) (and-then ! (load ! (from ! (stop !)) (look ! 14
-        refl)) (and-then ! (load ! (from ! (stop !)) (look ! 24 refl)) (and-then ! (load ! (from ! (stop !)) (look ! 23 refl)) (and-then ! (load
-        ! (from ! (stop !)) (look ! 22 refl)) (and-then ! (load ! (from ! (stop !)) (look ! 12 refl)) (and-then ! (load ! (from ! (stop !)) (look
-        ! 19 refl)) (and-then ! (load ! (from ! (stop !)) (look ! 18 refl)) (no-more !)))))))) (λ z2.
-        use1 W (later (some (λ (r2 : RowCheck). ((‵ (flft (ν2a ∷ []) fullShare) ⊛ ‵ (flft (ν2e ∷ []) fullShare) ⊛ ‵ (flft κ₁ q₁) ⊛ ‵ (flft κ₂ q₂) ⊛ ‵
-        ftrue) ⊛ ‵ (mRowCheck.the-row .own r2 (z2 ∷ []))) ⊛ some (λ (ws : Lasts g2.ended ((ν2a ∷ []), ((ν2e ∷ []), (κ₁, (κ₂, tt)))) (
-          ref1 δ2a
-              (ys1),
-          (n2, (n3, (n4, (record { ptr = (l₉, 0); name = δ2e; now = (take r1 (n5)) }, (s7, (s8, tt)))))),
-        )). ‵ (lasts g2.ended (
-          (ν2a ∷ []),
-          ((ν2e ∷ []), (κ₁, (κ₂, tt))),
-        ) (
-          ref1 δ2a (ys1),
-          (
-            n2,
-            (
-              n3,
-              (
-                n4,
-                (
-                  record { ptr = (l₉, 0); name = δ2e; now = (take r1 (n5)) },
+                  fullShare,
                   (
-                    s7,
+                    q₂,
                     (
-                      s8,
+                      q₃,
                       tt,
                     ),
                   ),
                 ),
               ),
             ),
+            tt,
+            (ref1 δ2a (ys1), (n2, (n3, (s4, (n5, (record { ptr = (l₁₀, 0); name = δ2f; now = (take r1 (n6)) }, (s8, (s9, tt)))))))),
+            (
+              v1
+                  ∷ [],
+              (u2 ∷ [], (u3 ∷ [], (v4 ∷ [], (u5 ∷ [], (sliceVal (l₁₀, 0) r1 ∷ [], (v8 ∷ [], (v9 ∷ [], tt))))))),
+            ),
           ),
-        ) ws) ⊛ raw (g2.clauses 𝓤 H A at-mem run ((ν2a ∷ []), ((ν2e ∷ []), (κ₁, (κ₂, tt)))) (
+          tt,
+        ))) (qed W ((‵ (flft (ν2a ∷
+        []) fullShare) ⊛ ‵ (flft κ₁ q₁) ⊛ ‵ (flft (ν2f ∷ []) fullShare) ⊛ ‵ (flft κ₂ q₂) ⊛ ‵ (flft κ₃ q₃) ⊛ ‵ ftrue) ∷ ‵ (MutSlice (named 0) (ν2a
+        ∷ []) u64 .own (ref1 δ2a (ys1)) (v1 ∷ [])) ∷ ‵ (ShrSlice (named 1) κ₁ u64 .own s4 (v4 ∷ [])) ∷ ‵ (ShrSlice (named 2) (ν2f ∷ [])
+        mEntry.the-row .own (record { ptr = (l₁₀, 0); name = δ2f; now = (take r1 (n6)) }) (sliceVal (l₁₀, 0) r1 ∷ [])) ∷ ‵ (ShrSlice (named 3) κ₂
+        u64 .own s8 (v8 ∷ [])) ∷ ‵ (ShrSlice (named 4) κ₃ u64 .own s9 (v9 ∷ [])) ∷ []) ∵ nothing ! $ move ! (6 ∷ 0 ∷ []) $ fjoin ! $ move ! (5 ∷
+        0 ∷ []) $ fjoin ! $ move ! (4 ∷ 0 ∷ []) $ fjoin ! $ owned ! mShapes.the-row (Is mShapes.the-row) (LL.makes mShapes.the-type
+        lShapes.the-plain 𝓤 H A) (n5) _ w5 $ fjoin ! $ move ! (3 ∷ 0 ∷ []) $ fjoin ! $ owned ! u64 (Is u64) (uint-makes 𝓤 H A W w64) (n3) _ w3 $
+        fjoin ! $ owned ! u64 (Is u64) (uint-makes 𝓤 H A W w64) (n2) _ w2 $ fjoin ! $ move ! (2 ∷ 0 ∷ []) $ fjoin ! $ move ! (1 ∷ 0 ∷ []) $ join
+        ! $ nothing ! $ move ! (1 ∷ 0 ∷ []) $ frame ! $ done !) $
+        calls-at ! fm (Callee-g2 𝓤 H A at-mem run) known-g2 (
+          (
+            ((ν2a ∷ []), (κ₁, ((ν2f ∷ []), (κ₂, (κ₃, tt))))),
+            (
+              fullShare,
+              (
+                q₁,
+                (
+                  fullShare,
+                  (
+                    q₂,
+                    (q₃, tt),
+                  ),
+                ),
+              ),
+            ),
+            tt,
+            (
+              ref1 δ2a (ys1),
+              (
+                n2,
+                (
+                  n3,
+                  (
+                    s4,
+                    (
+                      n5,
+                      (
+                        record { ptr = (l₁₀, 0); name = δ2f; now = (take r1 (n6)) },
+                        (
+                          s8,
+                          (
+                            s9,
+                            tt,
+                          ),
+                        ),
+                      ),
+                    ),
+                  ),
+                ),
+              ),
+            ),
+            (v1 ∷ [], (u2 ∷ [], (u3 ∷ [], (v4 ∷ [], (u5 ∷ [], (sliceVal (l₁₀, 0) r1 ∷ [], (v8 ∷ [], (v9 ∷ [], tt)))))))),
+          ),
+          tt,
+        ) (and-then
+        ! (load ! (from ! (stop !)) (look ! 15 refl)) (and-then ! (load ! (from ! (stop !)) (look ! 26 refl)) (and-then ! (load ! (from ! (stop
+        !)) (look ! 25 refl)) (and-then ! (load ! (from ! (stop !)) (look ! 24 refl)) (and-then ! (load ! (from ! (stop !)) (look ! 23 refl))
+        (and-then ! (load ! (from ! (stop !)) (look ! 13 refl)) (and-then ! (load ! (from ! (stop !)) (look ! 20 refl)) (and-then ! (load ! (from
+        ! (stop !)) (look ! 19 refl)) (no-more !))))))))) (λ z2.
+        use1 W (later (some (λ (r2 : RowCheck). ((‵ (flft (ν2a ∷ []) fullShare) ⊛ ‵ (flft κ₁ q₁) ⊛ ‵ (flft (ν2f ∷ []) fullShare) ⊛ ‵ (flft κ₂ q₂) ⊛ ‵
+        (flft κ₃ q₃) ⊛ ‵ ftrue) ⊛ ‵ (mRowCheck.the-row .own r2 (z2 ∷ []))) ⊛ some (λ (ws : Lasts g2.ended (
+          (ν2a ∷ []),
+          (
+            κ₁,
+            (
+              (ν2f ∷ []),
+              (
+                κ₂,
+                (κ₃, tt),
+              ),
+            ),
+          ),
+        ) (ref1 δ2a (ys1), (n2, (n3, (s4, (n5, (record { ptr = (l₁₀, 0); name = δ2f; now = (take r1 (n6)) }, (s8, (s9, tt))))))))). ‵
+        (lasts g2.ended ((ν2a ∷ []), (κ₁, ((ν2f ∷ []), (κ₂, (κ₃, tt))))) (
           ref1 δ2a (ys1),
           (
             n2,
             (
               n3,
               (
-                n4,
+                s4,
                 (
-                  record {
-                    ptr
-                        = (l₉, 0);
-                    name = δ2e;
-                    now = (take r1 (n5));
-                  },
-                  (s7, (s8, tt)),
+                  n5,
+                  (
+                    record {
+                      ptr = (l₁₀, 0);
+                      name =
+                          δ2f;
+                      now = (take r1 (n6));
+                    },
+                    (s8, (s9, tt)),
+                  ),
                 ),
               ),
             ),
           ),
-        ) .ensures tt r2 (atExit g2.ended (
-          (ν2a ∷ []),
+        ) ws) ⊛ raw (g2.clauses 𝓤 H A at-mem run ((ν2a ∷ []), (κ₁, ((ν2f ∷ []), (κ₂, (κ₃, tt)))))
+        (ref1 δ2a (ys1), (n2, (n3, (s4, (n5, (record { ptr = (l₁₀, 0); name = δ2f; now = (take r1 (n6)) }, (s8, (s9, tt)))))))) .ensures tt r2
+        (atExit g2.ended ((ν2a ∷ []), (κ₁, ((ν2f ∷ []), (κ₂, (κ₃, tt))))) (
+          ref1 δ2a (ys1),
           (
-            (ν2e ∷ []),
+            n2,
             (
-              κ₁,
+              n3,
               (
-                κ₂,
-                tt,
+                s4,
+                (
+                  n5,
+                  (
+                    record {
+                      ptr = (l₁₀, 0);
+                      name =
+                          δ2f;
+                      now = (take r1 (n6));
+                    },
+                    (s8, (s9, tt)),
+                  ),
+                ),
               ),
             ),
           ),
-        ) (ref1 δ2a (ys1), (n2, (n3, (n4, (record { ptr = (l₉, 0); name = δ2e; now = (take r1 (n5)) }, (s7, (s8, tt))))))) ws)))))) (id⊢ 𝓤
-        _) $ await ! tt $ pick ! (λ r2. split ! $ move ! (1 ∷ []) $ pick ! (λ ws2. split ! $ move ! (1 ∷ []) $ heard ! _ (λ e2.
+        ) ws)))))) (id⊢ 𝓤 _) $ await ! tt $ pick ! (λ r2. split ! $ move ! (1 ∷ []) $ pick ! (λ
+        ws2. split ! $ move ! (1 ∷ []) $ heard ! _ (λ e2.
         fsplit ! $ fsplit ! $ move ! (1 ∷ []) $ feqL ! (λ same2a. move ! (1 ∷ []) $ drop ! $ move ! (1 ∷ []) $ split ! $ move ! (1 ∷ []) $ peeks !
-        mRowCheck.the-row (Is mRowCheck.the-row) (shows 𝓤 H A mRowCheck.the-row) r2 (z2 ∷ []) (λ i2. drop ! $ land ! (from ! (stop !)) (init ! 27
+        mRowCheck.the-row (Is mRowCheck.the-row) (shows 𝓤 H A mRowCheck.the-row) r2 (z2 ∷ []) (λ i2. drop ! $ land ! (from ! (stop !)) (init ! 29
         refl (EL.lawful mRowCheck.the-type lRowCheck.the-laws 𝓤 H A W tt .typed r2 _ i2 .0)) $
-        tidy W (_ ∷ _ ∷ _ ∷ _ ∷ _ ∷ _ ∷ _ ∷ _ ∷ _ ∷ _ ∷ _ ∷ _ ∷ _ ∷ _ ∷ _ ∷ _ ∷ _ ∷ _ ∷ _ ∷ _ ∷ _ ∷ _ ∷ _ ∷ _ ∷ _ ∷ _ ∷ _ ∷ _ ∷ []) $ split ! $ move
-        ! (1 ∷ []) $ split ! $ move ! (1 ∷ []) $ split ! $ move ! (1 ∷ []) $ split ! $ move ! (1 ∷ []) $ drop ! $ move ! (3 ∷ []) $ lft-end ! tt
-        $ move ! (0 ∷ 9 ∷ 4 ∷ []) $ use3 W (later (‵ (O1 (ws2 .0)) ⊛ ‵ (flft κ₀ q₀))) (backs1 (named 0) ν2a δ2a (ys1) (ws2 .0) (refl) room1
-        same2a) $ await ! tt $ split ! $
-        move ! (4 ∷ []) $ lft-end ! tt $ move ! (0 ∷ 7 ∷ []) $ lent-back ! tt $ fsplit ! $ drop ! $ move ! (0 ∷ 7 ∷ []) $ use2 W (‵ (parts (mem
-        mEntry.the-row) (shares mEntry.the-row) fullShare (n5) l₉ 0)) (mend 𝓤 H A mEntry.the-row fullShare r1 (n5) l₉ 0) $ feqI ! ℕ (length (n5))
-        384 ln2e $ fjoin ! $ use1 W (‵ (partAt (Array mEntry.the-row 384) fullShare (n5) l₉ 0)) (array-whole 𝓤 H A W mEntry.the-row fullShare 384
-        (n5) l₉ 0) $
-        out ! (Array mEntry.the-row 384) fullShare (n5) l₉ 0 (λ vs. spelt ! (Array mEntry.the-row 384) (Is (Array mEntry.the-row 384)) (shows 𝓤 H A
+        tidy W (_ ∷ _ ∷ _ ∷ _ ∷ _ ∷ _ ∷ _ ∷ _ ∷ _ ∷ _ ∷ _ ∷ _ ∷ _ ∷ _ ∷ _ ∷ _ ∷ _ ∷ _ ∷ _ ∷ _ ∷ _ ∷ _ ∷ _ ∷ _ ∷ _ ∷ _ ∷ _ ∷ _ ∷ _ ∷ _ ∷ []) $ split !
+        $ move ! (1 ∷ []) $ split ! $ move ! (1 ∷ []) $ split ! $ move ! (1 ∷ []) $ split ! $ move ! (1 ∷ []) $ split ! $ move ! (1 ∷ []) $ drop
+        ! $ move ! (4 ∷ []) $ lft-end ! tt $ move ! (0 ∷ 11 ∷ 5 ∷ []) $ use3 W (later (‵ (O1 (ws2 .0)) ⊛ ‵ (flft κ₀ q₀))) (backs1 (named 0) ν2a
+        δ2a (ys1) (ws2 .0) (refl) room1 same2a) $ await ! tt $ split ! $
+        move ! (4 ∷ []) $ lft-end ! tt $ move ! (0 ∷ 8 ∷ []) $ lent-back ! tt $ fsplit ! $ drop ! $ move ! (0 ∷ 8 ∷ []) $ use2 W (‵ (parts (mem
+        mEntry.the-row) (shares mEntry.the-row) fullShare (n6) l₁₀ 0)) (mend 𝓤 H A mEntry.the-row fullShare r1 (n6) l₁₀ 0) $ feqI ! ℕ (length
+        (n6)) 384 ln2f $ fjoin ! $ use1 W (‵ (partAt (Array mEntry.the-row 384) fullShare (n6) l₁₀ 0)) (array-whole 𝓤 H A W mEntry.the-row
+        fullShare 384 (n6) l₁₀ 0) $
+        out ! (Array mEntry.the-row 384) fullShare (n6) l₁₀ 0 (λ vs. spelt ! (Array mEntry.the-row 384) (Is (Array mEntry.the-row 384)) (shows 𝓤 H A
         (Array mEntry.the-row 384)) (array-vals (LL.vals mEntry.the-type lEntry.the-laws)) (array-tells mEntry.the-row (LL.vals mEntry.the-type
-        lEntry.the-laws) (LL.tells mEntry.the-type lEntry.the-laws) 384) fullShare (n5) vs l₉ 0 $ move ! (1 ∷ []) $ peeks ! (Array mEntry.the-row
-        384) (Is (Array mEntry.the-row 384)) (shows 𝓤 H A (Array mEntry.the-row 384)) (n5) (array-val (LL.vals mEntry.the-type lEntry.the-laws)
-        (n5) ∷ []) (λ w2e. drop ! $ use1 W (‵ (fat fullShare (tyArray (lEntry.mir) 384) l₉ 0 (array-val (LL.vals mEntry.the-type lEntry.the-laws)
-        (n5)))) (W .laws .raw-at fullShare (tyArray (lEntry.mir) 384) l₉ 0 (array-val (LL.vals mEntry.the-type lEntry.the-laws) (n5))) $
-        tidy W (_ ∷ _ ∷ _ ∷ _ ∷ _ ∷ _ ∷ _ ∷ _ ∷ _ ∷ _ ∷ _ ∷ _ ∷ _ ∷ _ ∷ _ ∷ _ ∷ _ ∷ _ ∷ _ ∷ _ ∷ _ ∷ _ ∷ _ ∷ _ ∷ _ ∷ _ ∷ _ ∷ _ ∷ []) $ returns ! (look
-        ! 27 refl) $ move ! (1 ∷ 2 ∷ 3 ∷ 4 ∷ 5 ∷ 6 ∷ 7 ∷ 8 ∷ 9 ∷ 10 ∷ 11 ∷ 12 ∷ 13 ∷ 14 ∷ 15 ∷ 16 ∷ 17 ∷ 18 ∷ 0 ∷ 19 ∷ 20 ∷ 21 ∷ 22 ∷ 23 ∷ 24 ∷
-        25 ∷ 26 ∷ 27 ∷ []) $ move ! (11 ∷ []) $ use1 W (dies ((lRowCheck.mir, l₀) ∷ (sliceTy (tyRef (named 0) mut (tyInt w64)), l₁) ∷ (
-          tyInt w64,
-          l₂,
-        ) ∷ (tyInt w64, l₃) ∷ (lShapes.mir, l₄) ∷ (tyArray (lEntry.mir) 384, l₅) ∷ (tyInt w64, l₆) ∷ (
-          sliceTy (tyRef (named 1) imm (tyInt
-              w64)),
-          l₇,
-        ) ∷ (sliceTy (tyRef (named 2) imm (tyInt w64)), l₈) ∷ (tyArray (lEntry.mir) 384, l₉) ∷ (tyInt w64, l₁₀) ∷ (tyInt w64, l₁₁) ∷
-        (tyRef erased mut (tyInt w64), l₁₂) ∷ (sliceTy (tyRef erased mut (tyInt w64)), l₁₃) ∷ (
-          tyRef erased imm (pointee ((Array mEntry.the-row
-              384) .written)),
-          l₁₄,
-        ) ∷ (sliceTy (tyRef erased imm (pointee (mEntry.the-row .written))), l₁₅) ∷ []) (‵ ftrue)) die $ free-all ! 11
-        ((lRowCheck.mir, l₀) ∷ (sliceTy (tyRef (named 0) mut (tyInt w64)), l₁) ∷ (tyInt w64, l₂) ∷ (tyInt w64, l₃) ∷ (lShapes.mir, l₄) ∷ (
+        lEntry.the-laws) (LL.tells mEntry.the-type lEntry.the-laws) 384) fullShare (n6) vs l₁₀ 0 $ move ! (1 ∷ []) $ peeks ! (Array
+        mEntry.the-row 384) (Is (Array mEntry.the-row 384)) (shows 𝓤 H A (Array mEntry.the-row 384)) (n6) (array-val (LL.vals mEntry.the-type
+        lEntry.the-laws) (n6) ∷ []) (λ w2f. drop ! $ use1 W (‵ (fat fullShare (tyArray (lEntry.mir) 384) l₁₀ 0 (array-val (LL.vals
+        mEntry.the-type lEntry.the-laws) (n6)))) (W .laws .raw-at fullShare (tyArray (lEntry.mir) 384) l₁₀ 0 (array-val (LL.vals mEntry.the-type
+        lEntry.the-laws) (n6))) $
+        tidy W (_ ∷ _ ∷ _ ∷ _ ∷ _ ∷ _ ∷ _ ∷ _ ∷ _ ∷ _ ∷ _ ∷ _ ∷ _ ∷ _ ∷ _ ∷ _ ∷ _ ∷ _ ∷ _ ∷ _ ∷ _ ∷ _ ∷ _ ∷ _ ∷ _ ∷ _ ∷ _ ∷ _ ∷ _ ∷ _ ∷ _ ∷ []) $
+        returns ! (look ! 30 refl) $ move ! (1 ∷ 2 ∷ 3 ∷ 4 ∷ 5 ∷ 6 ∷ 7 ∷ 8 ∷ 9 ∷ 10 ∷ 11 ∷ 12 ∷ 13 ∷ 14 ∷ 15 ∷ 16 ∷ 17 ∷ 18 ∷ 19 ∷ 20 ∷ 0 ∷ 21 ∷
+        22 ∷ 23 ∷ 24 ∷ 25 ∷ 26 ∷ 27 ∷ 28 ∷ 29 ∷ 30 ∷ []) $ move ! (13 ∷ []) $ use1 W (dies ((lRowCheck.mir, l₀) ∷ (
+          sliceTy (tyRef (named 0) mut
+              (tyInt w64)),
+          l₁,
+        ) ∷ (tyInt w64, l₂) ∷ (tyInt w64, l₃) ∷ (sliceTy (tyRef (named 1) imm (tyInt w64)), l₄) ∷ (lShapes.mir, l₅) ∷ (
           tyArray
               (lEntry.mir) 384,
-          l₅,
-        ) ∷ (tyInt w64, l₆) ∷ (sliceTy (tyRef (named 1) imm (tyInt w64)), l₇) ∷ (
-          sliceTy (tyRef (named 2) imm (tyInt w64)),
-          l₈,
-        ) ∷ (tyArray (lEntry.mir) 384, l₉) ∷ (tyInt w64, l₁₀) ∷ (tyInt w64, l₁₁) ∷ (tyRef erased mut (tyInt w64), l₁₂) ∷ (
-          sliceTy (tyRef erased
-              mut (tyInt w64)),
-          l₁₃,
-        ) ∷ (tyRef erased imm (pointee ((Array mEntry.the-row 384) .written)), l₁₄) ∷ (
-          sliceTy (tyRef erased imm (pointee
-              (mEntry.the-row .written))),
-          l₁₅,
-        ) ∷ []) (kept _ ∷ kept _ ∷ kept _ ∷ kept _ ∷ kept _ ∷ kept _ ∷ kept _ ∷ kept _ ∷ kept _ ∷ kept _ ∷ kept _
-        ∷ kept _ ∷ kept _ ∷ kept _ ∷ kept _ ∷ kept _ ∷ []) refl $
-        suffices ! _ (ends-at 𝓤 H A f.ended stayed (f.clauses 𝓤 H A at-mem run) W (((κ₀, (κ₁, (κ₂, tt))), (q₀, (q₁, (q₂, tt))), tt, a, at), tt) z2 r2
-        (ws2 .0, (tt, (tt, (tt, (tt, (tt, (tt, (tt, tt)))))))) (same2a, (tt, (tt, (tt, (tt, (tt, (tt, (tt, tt))))))))) $ says ! (rw (← (e1 .0))
-        e2) $
-        nothing ! $ move ! (3 ∷ 0 ∷ []) $ join ! $ move ! (3 ∷ 0 ∷ []) $ join ! $ move ! (2 ∷ 0 ∷ []) $ join ! $ nothing ! $ move ! (3 ∷ 0 ∷ []) $
-        fjoin ! $ move ! (3 ∷ 0 ∷ []) $ fjoin ! $ move ! (3 ∷ 0 ∷ []) $ fjoin ! $ move ! (3 ∷ 0 ∷ []) $ fjoin ! $ move ! (3 ∷ 0 ∷ []) $ fjoin ! $
-        move ! (3 ∷ 0 ∷ []) $ fjoin ! $ move ! (3 ∷ 0 ∷ []) $ fjoin ! $ move ! (2 ∷ 0 ∷ []) $ fjoin ! $ keep ! (1 ∷ 0 ∷ []) $ frame ! $ frame ! $
-        owned ! mRowCheck.the-row (Is mRowCheck.the-row) (EL.makes mRowCheck.the-type lRowCheck.the-plain 𝓤 H A) r2 _ i2 $ done
-        !)))))))))))))))))))))))))))))))))))
+          l₆,
+        ) ∷ (tyInt w64, l₇) ∷ (sliceTy (tyRef (named 2) imm (tyInt w64)), l₈) ∷ (
+          sliceTy (tyRef (named 3) imm (tyInt w64)),
+          l₉,
+        ) ∷ (tyArray (lEntry.mir) 384, l₁₀) ∷ (tyInt w64, l₁₁) ∷ (tyInt w64, l₁₂) ∷ (tyRef erased mut (tyInt w64), l₁₃) ∷ (
+          sliceTy (tyRef
+              erased mut (tyInt w64)),
+          l₁₄,
+        ) ∷ (tyRef erased imm (pointee ((Array mEntry.the-row 384) .written)), l₁₅) ∷ (
+          sliceTy (tyRef erased imm
+              (pointee (mEntry.the-row .written))),
+          l₁₆,
+        ) ∷ []) (‵ ftrue)) die $ free-all ! 13 ((lRowCheck.mir, l₀) ∷ (
+          sliceTy (tyRef (named 0) mut
+              (tyInt w64)),
+          l₁,
+        ) ∷ (tyInt w64, l₂) ∷ (tyInt w64, l₃) ∷ (sliceTy (tyRef (named 1) imm (tyInt w64)), l₄) ∷ (lShapes.mir, l₅) ∷ (
+          tyArray
+              (lEntry.mir) 384,
+          l₆,
+        ) ∷ (tyInt w64, l₇) ∷ (sliceTy (tyRef (named 2) imm (tyInt w64)), l₈) ∷ (
+          sliceTy (tyRef (named 3) imm (tyInt w64)),
+          l₉,
+        ) ∷ (tyArray (lEntry.mir) 384, l₁₀) ∷ (tyInt w64, l₁₁) ∷ (tyInt w64, l₁₂) ∷ (tyRef erased mut (tyInt w64), l₁₃) ∷ (
+          sliceTy (tyRef
+              erased mut (tyInt w64)),
+          l₁₄,
+        ) ∷ (tyRef erased imm (pointee ((Array mEntry.the-row 384) .written)), l₁₅) ∷ (
+          sliceTy (tyRef erased imm
+              (pointee (mEntry.the-row .written))),
+          l₁₆,
+        ) ∷ []) (kept _ ∷ kept _ ∷ kept _ ∷ kept _ ∷ kept _ ∷ kept _ ∷ kept _ ∷ kept _ ∷ kept _ ∷ kept _
+        ∷ kept _ ∷ kept _ ∷ kept _ ∷ kept _ ∷ kept _ ∷ kept _ ∷ kept _ ∷ []) refl $
+        suffices ! _ (ends-at 𝓤 H A f.ended stayed (f.clauses 𝓤 H A at-mem run) W (
+          (
+            (κ₀, (κ₁, (κ₂, (κ₃, tt)))),
+            (q₀, (q₁, (q₂, (q₃, tt)))),
+            tt,
+            a,
+            at,
+          ),
+          tt,
+        ) z2 r2 (ws2 .0, (tt, (tt, (tt, (tt, (tt, (tt, (tt, (tt, tt))))))))) (same2a, (tt, (tt, (tt, (tt, (tt, (tt, (tt, (tt, tt))))))))))
+        $ says ! (rw (← (e1 .0)) e2) $
+        nothing ! $ move ! (3 ∷ 0 ∷ []) $ join ! $ move ! (3 ∷ 0 ∷ []) $ join ! $ move ! (3 ∷ 0 ∷ []) $ join ! $ move ! (2 ∷ 0 ∷ []) $ join ! $
+        nothing ! $ move ! (3 ∷ 0 ∷ []) $ fjoin ! $ move ! (3 ∷ 0 ∷ []) $ fjoin ! $ move ! (4 ∷ 0 ∷ []) $ fjoin ! $ move ! (4 ∷ 0 ∷ []) $ fjoin !
+        $ move ! (4 ∷ 0 ∷ []) $ fjoin ! $ move ! (3 ∷ 0 ∷ []) $ fjoin ! $ move ! (3 ∷ 0 ∷ []) $ fjoin ! $ move ! (3 ∷ 0 ∷ []) $ fjoin ! $ move !
+        (2 ∷ 0 ∷ []) $ fjoin ! $ keep ! (1 ∷ 0 ∷ []) $ frame ! $ frame ! $ owned ! mRowCheck.the-row (Is mRowCheck.the-row) (EL.makes
+        mRowCheck.the-type lRowCheck.the-plain 𝓤 H A) r2 _ i2 $ done !))))))))))))))))))))))))))))))))))))
 
 module _ {M : Type 1} (𝓤 : URA M) (H : Heap 𝓤) (A : Atoms 𝓤) (W : Given 𝓤 H A) (mem : Memory → SProp 𝓤) (run : Routine → Fun 𝓤) where
   walks : (C : Calls 𝓤 H) (Λ : Loops 𝓤 H) → FmC 𝓤 H (W .laws) C → Triple 𝓤 (C #g1) (Callee-g1 𝓤 H A mem run) → Triple 𝓤 (C #g2) (Callee-g2 𝓤 H A mem
@@ -444,13 +518,12 @@ module _ {M : Type 1} (𝓤 : URA M) (H : Heap 𝓤) (A : Atoms 𝓤) (W : Given
       (
         (uint-vals w64),
         (
-          (LL.vals mShapes.the-type lShapes.the-laws),
+          slice-vals,
           (
-            (array-vals (LL.vals mEntry.the-type lEntry.the-laws)),
+            (LL.vals mShapes.the-type lShapes.the-laws),
             (
-              (uint-vals
-                  w64),
-              (slice-vals, (slice-vals, tt)),
+              (array-vals (LL.vals mEntry.the-type lEntry.the-laws)),
+              ((uint-vals w64), (slice-vals, (slice-vals, tt))),
             ),
           ),
         ),
@@ -463,47 +536,67 @@ module _ {M : Type 1} (𝓤 : URA M) (H : Heap 𝓤) (A : Atoms 𝓤) (W : Given
       (
         (uint-tells w64),
         (
-          (LL.tells
-              mShapes.the-type lShapes.the-laws),
+          shr-slice-tells (named 1) (κs .1 .0) u64,
           (
-            (array-tells mEntry.the-row (LL.vals mEntry.the-type lEntry.the-laws) (LL.tells mEntry.the-type
-                lEntry.the-laws) 384),
-            ((uint-tells w64), (shr-slice-tells (named 1) (κs .1 .0) u64, (shr-slice-tells (named 2) (κs .1 .1 .0) u64, tt))),
-          ),
-        ),
-      ),
-    ),
-  ))
-      (λ κs qs bounds a g are. via 𝓤 _ (fst∗ 𝓤 _ (emp 𝓤)) (walk 𝓤 H A W mem run (κs .0) (κs .1 .0) (κs .1 .1 .0) (qs .0) (qs .1 .0) (qs .1 .1 .0) (a
-      .0 .ptr .0) (a .0 .ptr .1) (a .0 .name) (a .0 .now) (a .1 .0) (only ((uint-vals w64) (a .1 .0))) (a .1 .1 .0) (only ((uint-vals w64) (a .1
-      .1 .0))) (a .1 .1 .1 .0) (only ((LL.vals mShapes.the-type lShapes.the-laws) (a .1 .1 .1 .0))) (a .1 .1 .1 .1 .0) (only ((array-vals
-      (LL.vals mEntry.the-type lEntry.the-laws)) (a .1 .1 .1 .1 .0))) (a .1 .1 .1 .1 .1 .0) (only ((uint-vals w64) (a .1 .1 .1 .1 .1 .0))) (a .1
-      .1 .1 .1 .1 .1 .0) (a .1 .1 .1 .1 .1 .1 .1 .0) C Λ fm known-g1 known-g2 (are .0 .0 .1) (are .1 .0) (are .1 .1 .0) (are .1 .1 .1 .0) (are .1
-      .1 .1 .1 .0) (are .1 .1 .1 .1 .1 .0) (are .1 .1 .1 .1 .1 .1 .0) (are .1 .1 .1 .1 .1 .1 .1 .0)))
-
-  meets : (𝓣 : Tables 𝓤 H) → Triple 𝓤 (𝓣 .C #g1) (Callee-g1 𝓤 H A mem run) → Triple 𝓤 (𝓣 .C #g2) (Callee-g2 𝓤 H A mem run) → Meets 𝓤 H A f.signature
-      (WpFn 𝓤 H (𝓣 .C) (𝓣 .Λ) code.function) (f.spec 𝓤 H A mem run)
-  meets 𝓣 known-g1 known-g2 = walk-meets 𝓤 H A f.ended stayed W (
-    goes-slice 𝓤 H A W 3 0 tt (plain (λ _. u64)),
-    (
-      goes-none 𝓤 H A W 3 (λ _. u64) yes (λ
-          κs x f. refl),
-      (
-        goes-none 𝓤 H A W 3 (λ _. u64) yes (λ κs x f. refl),
-        (
-          goes-none 𝓤 H A W 3 (λ _. mShapes.the-row) yes (λ κs x f. refl),
-          (
-            goes-none 𝓤 H A W 3 (λ _. (Array mEntry.the-row 384)) yes (λ κs x f. refl),
+            (LL.tells mShapes.the-type lShapes.the-laws),
             (
-              goes-none 𝓤 H A W 3 (λ _. u64) yes (λ κs x f. refl),
-              (goes-none-slice 𝓤 H A W 3 (1 ∷ []) tt (plain (λ _. u64)) yes, (goes-none-slice 𝓤 H A W 3 (2 ∷ []) tt (plain (λ _. u64)) yes, tt)),
+              (array-tells mEntry.the-row (LL.vals mEntry.the-type
+                  lEntry.the-laws) (LL.tells mEntry.the-type lEntry.the-laws) 384),
+              (
+                (uint-tells w64),
+                (
+                  shr-slice-tells (named 2) (κs .1 .1 .0) u64,
+                  (shr-slice-tells (named 3) (κs .1 .1 .1 .0) u64, tt),
+                ),
+              ),
             ),
           ),
         ),
       ),
     ),
-  )
-      (f.clauses 𝓤 H A mem run)
+  ))
+      (λ κs qs bounds a g are. via 𝓤 _ (fst∗ 𝓤 _ (emp 𝓤)) (walk 𝓤 H A W mem run (κs .0) (κs .1 .0) (κs .1 .1 .0) (κs .1 .1 .1 .0) (qs .0) (qs .1 .0)
+      (qs .1 .1 .0) (qs .1 .1 .1 .0) (a .0 .ptr .0) (a .0 .ptr .1) (a .0 .name) (a .0 .now) (a .1 .0) (only ((uint-vals w64) (a .1 .0))) (a .1 .1
+      .0) (only ((uint-vals w64) (a .1 .1 .0))) (a .1 .1 .1 .0) (a .1 .1 .1 .1 .0) (only ((LL.vals mShapes.the-type lShapes.the-laws) (a .1 .1 .1
+      .1 .0))) (a .1 .1 .1 .1 .1 .0) (only ((array-vals (LL.vals mEntry.the-type lEntry.the-laws)) (a .1 .1 .1 .1 .1 .0))) (a .1 .1 .1 .1 .1 .1
+      .0) (only ((uint-vals w64) (a .1 .1 .1 .1 .1 .1 .0))) (a .1 .1 .1 .1 .1 .1 .1 .0) (a .1 .1 .1 .1 .1 .1 .1 .1 .0) C Λ fm known-g1 known-g2
+      (are .0 .0 .1) (are .1 .0) (are .1 .1 .0) (are .1 .1 .1 .0) (are .1 .1 .1 .1 .0) (are .1 .1 .1 .1 .1 .0) (are .1 .1 .1 .1 .1 .1 .0) (are .1
+      .1 .1 .1 .1 .1 .1 .0) (are .1 .1 .1 .1 .1 .1 .1 .1 .0)))
+
+  meets : (𝓣 : Tables 𝓤 H) → Triple 𝓤 (𝓣 .C #g1) (Callee-g1 𝓤 H A mem run) → Triple 𝓤 (𝓣 .C #g2) (Callee-g2 𝓤 H A mem run) → Meets 𝓤 H A f.signature
+      (WpFn 𝓤 H (𝓣 .C) (𝓣 .Λ) code.function) (f.spec 𝓤 H A mem run)
+  meets 𝓣 known-g1 known-g2 = walk-meets 𝓤 H A f.ended stayed W (
+    goes-slice 𝓤 H A W 4 0 tt (plain (λ _. u64)),
+    (
+      goes-none 𝓤 H A W 4 (λ _. u64) yes (λ
+          κs x f. refl),
+      (
+        goes-none 𝓤 H A W 4 (λ _. u64) yes (λ κs x f. refl),
+        (
+          goes-none-slice 𝓤 H A W 4 (1 ∷ []) tt (plain (λ _. u64)) yes,
+          (
+            goes-none
+                𝓤 H A W 4 (λ _. mShapes.the-row) yes (λ κs x f. refl),
+            (
+              goes-none 𝓤 H A W 4 (λ _. (Array mEntry.the-row 384)) yes (λ κs x f. refl),
+              (
+                goes-none
+                    𝓤 H A W 4 (λ _. u64) yes (λ κs x f. refl),
+                (
+                  goes-none-slice 𝓤 H A W 4 (2 ∷ []) tt (plain (λ _. u64)) yes,
+                  (
+                    goes-none-slice 𝓤 H A W 4 (3 ∷ [])
+                        tt (plain (λ _. u64)) yes,
+                    tt,
+                  ),
+                ),
+              ),
+            ),
+          ),
+        ),
+      ),
+    ),
+  ) (f.clauses 𝓤 H A mem run)
       (WpFn 𝓤 H (𝓣 .C) (𝓣 .Λ) code.function) (WpFn-mono 𝓤 H (W .laws) 𝓣 code.function) (walks (𝓣 .C) (𝓣 .Λ) (fmOf 𝓤 H (W .laws) 𝓣) known-g1 known-g2)
 
 pub check-spec : {M : Type 1} → stated.statement M
@@ -513,4 +606,4 @@ check-spec 𝓤 H 𝓜 𝓖 𝓡 =
     (tables 𝓤 H 𝓜 𝓡 code.env .C) (tables 𝓤 H 𝓜 𝓡 code.env .Λ) #f code.function (code.unfolded 𝓤 H 𝓜 𝓡)
     (meets 𝓤 H (𝓖 .A) (givenOf 𝓤 H 𝓜 𝓖) (𝓜 .mem) (𝓡 .run) (tablesOf 𝓤 H 𝓜 (tables 𝓤 H 𝓜 𝓡 code.env))
     (cited 𝓤 H (Callee-g1 𝓤 H (𝓖 .A) (𝓜 .mem) (𝓡 .run)) 𝓜 𝓡 code.env #g1 g1-def.routine code.calls-magnetar-field·sizes·least (g1-thm.met 𝓤 H 𝓜 𝓖 𝓡))
-    (cited 𝓤 H (Callee-g2 𝓤 H (𝓖 .A) (𝓜 .mem) (𝓡 .run)) 𝓜 𝓡 code.env #g2 g2-def.routine code.calls-magnetar-batch·check-records·row-check (g2-thm.met 𝓤 H 𝓜 𝓖 𝓡)))
+    (cited 𝓤 H (Callee-g2 𝓤 H (𝓖 .A) (𝓜 .mem) (𝓡 .run)) 𝓜 𝓡 code.env #g2 g2-def.routine code.calls-magnetar-check·check-records·row-check (g2-thm.met 𝓤 H 𝓜 𝓖 𝓡)))
