@@ -1,4 +1,4 @@
-# Sourced by the scripts of proofs/, columns/ and tables/, which link the library for C and the built Rust into one program and time both.
+# Sourced by the scripts of proofs/, columns/, stray/ and tables/, which link the library for C and the built Rust into one program and time both.
 # ORACLE, their first word, is a folder that holds the Rust built in release mode: target/release/libmagnetar_*.rlib and
 # target/release/deps. Needs rt and the rustc that built it. The figures are written down in docs/PERFORMANCE.md.
 set -euo pipefail

@@ -102,11 +102,17 @@ fault label magnetar_prover/src/events.rt 'b"vs-vz"' 'b"vs-vx"'
 # numbers of entries that don't add up to the slices are let through
 fault counts magnetar_relation/src/rules.rt 'let n = entries_in(b) + entries_in(f);' 'let n = r;'
 # the entries of fld begin behind as many entries of C of bin as B has
-fault border magnetar_relation/src/range.rt 'after(c, t.c.entries, h)' 'after(c, t.b.entries, h)'
+fault border magnetar_relation/src/range.rt 'after(b, t.c.entries, n)' 'after(b, t.b.entries, n)'
 # over records alone, the second matrix of a system takes the third one's alpha
 fault record-alpha magnetar_batch/src/combo_records.rt 'add_matrix(es, s, m, n, al, j, p, b, c);' 'add_matrix(es, s, m, n, al, k, p, b, c);'
 # public columns of login 0 for every login: in the packed products, in the folded public half, in the row check and over records
 fault first-products magnetar_r1cs/src/r1cs.rt 'if columns::repeats(x, l) {' 'if l <= x.len() {'
 fault first-half magnetar_batch/src/fold.rt 'let a = u * l;' 'let a = 0 * l;'
 fault first-login magnetar_relation/src/login.rt 'let a = login_start(u, k, x.len());' 'let a = login_start(0, k, x.len());'
+# stray bits: a failing row is told before them; the highest column of a word is told; only the first word of a login is looked at; the
+# row check takes any segments
+fault rows-first magnetar_check/src/check.rt $'    r.kind == 0\n}' $'    r.kind % 3 == 0\n}'
+fault highest-column magnetar_relation/src/stray.rt 'u64::trailing_zeros(v) as usize' '(63 - u64::leading_zeros(v)) as usize'
+fault first-word magnetar_relation/src/stray.rt 'while k < words.len() {' 'while k < sizes::least(words.len(), 1) {'
+fault any-segments magnetar_check/src/check.rt 'layout::refusal(m / 2, lens)' '0'
 exit $missed

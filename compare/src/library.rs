@@ -29,11 +29,11 @@ pub fn verify(r: &Relation, t: &State, proof: &[u64], claims: usize, scratch: us
     Outcome { code: a.code, transcript: back(a.transcript), proof: vec![], claims, scratch }
 }
 
-/// The row check: its number, the system (0 for none, 1 bin, 2 fld, 3 where it is refused), login and row; and the scratch.
-pub fn row_check(r: &Relation, scratch: usize) -> ((u32, u32, usize, usize), Vec<u64>) {
+/// The row check, and the scratch after it.
+pub fn row_check(r: &Relation, scratch: usize) -> (sys::RowVerdict, Vec<u64>) {
     let mut scratch = vec![MARK; scratch];
-    let a = lent::row_check(&mut scratch, r.m, r.q, &r.rules(), &r.packed, &r.x);
-    ((a.code, a.system, a.login, a.row), scratch)
+    let a = lent::row_check(&mut scratch, r.m, r.q, &r.lens, &r.rules(), &r.packed, &r.x);
+    (a, scratch)
 }
 
 pub fn prove(r: &Relation, t: &State, proof: usize, claims: usize, scratch: usize) -> Outcome {

@@ -119,6 +119,14 @@ pub fn runs(tally: &mut Tally, which: usize) {
         rel.x = more.x;
     }
     runs::verify(tally, &rel, &(t.0, 1 << 32), &proof, room.claims, room.verifier);
+    // without the last segment its bits are stray; then the last column of the last login alone
+    rel.lens.pop();
+    runs::check(tally, &rel, room.check);
+    let (w, last) = (rel.m / 2, rel.q - 1);
+    for login in 0..rel.q {
+        (w - w / 64..w).for_each(|column| rel.set_bit(login, column, (login, column) == (last, w - 1)));
+    }
+    runs::check(tally, &rel, room.check);
 }
 
 /// A batch of many logins and few rows with every kind of rule.

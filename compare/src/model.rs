@@ -1,5 +1,5 @@
-//! Refusals 1 to 16 as document 01 has them, and its sizes. The Rust has neither.
-use crate::relation::{Matrix, Relation};
+//! Refusals 1 to 16 as document 01 has them, and its sizes; document 02's stray bits. The Rust has none of them.
+use crate::relation::{self, Matrix, Relation};
 
 pub const MOST: usize = 1 << 20;
 
@@ -143,8 +143,14 @@ pub fn prove(r: &Relation, lent: Lent) -> u32 {
 }
 
 pub fn check(r: &Relation, scratch: usize) -> u32 {
-    match relation(r, true, true, true) {
+    match run(r, true) {
         0 => first(&[(15, scratch < room(r).check)]),
         n => n,
     }
+}
+
+/// The first bit outside the segments, whose places are the Rust's: the lowest login, then the lowest column.
+pub fn stray(r: &Relation) -> Option<(usize, usize)> {
+    let outside = relation::outside(r);
+    (0..r.q).find_map(|u| outside.iter().find(|&&y| r.bit(u, y)).map(|&y| (u, y)))
 }

@@ -1,5 +1,6 @@
 //! Relations with a batch, in the form in which they are lent, and how they are made.
 use crate::forms::plain;
+use crate::model;
 use crate::random::Random;
 use crate::rust;
 use crate::text;
@@ -228,6 +229,24 @@ pub fn lengths(r: &mut Random, w: usize, most: usize) -> Vec<usize> {
         }
     }
     lens
+}
+
+/// The columns that no segment holds.
+pub fn outside(r: &Relation) -> Vec<usize> {
+    let inside = inside(r.m / 2, &r.lens);
+    (0..r.m / 2).filter(|&y| !inside[y]).collect()
+}
+
+/// The same batch where the row check looks at other things: with one segment over all columns where a bit is stray, so that the rows
+/// decide; else with a bit set outside the segments, where there are such columns.
+pub fn turned(r: &mut Random, rel: &Relation) -> Relation {
+    let (mut other, free) = (rel.clone(), outside(rel));
+    if model::stray(rel).is_some() {
+        other.lens = vec![rel.m / 2];
+    } else if !free.is_empty() {
+        other.set_bit(r.below(rel.q), r.pick(&free), true);
+    }
+    other
 }
 
 fn inside(w: usize, lens: &[usize]) -> Vec<bool> {

@@ -8,7 +8,8 @@ use crate::relation::{self, Entries, Kind, Matrix, Relation, KINDS};
 use crate::rust::{self, State};
 use crate::tally::{By, Tally};
 use crate::text::*;
-use crate::whole::{damage, first_failing};
+use crate::whole::{damage, to_check, Said};
+use magnetar::sys::RowVerdict;
 use magnetar_field::Gf128;
 use magnetar_spartan::{prove_virtual_spartan, verify_virtual_spartan};
 
@@ -114,16 +115,17 @@ pub fn prove(tally: &mut Tally, r: &Relation, start: &State, proof: usize, claim
 
 /// Compares the row check through the library.
 pub fn check(tally: &mut Tally, r: &Relation, scratch: usize) {
-    let refusal = model::check(r, scratch);
-    let expected = if refusal != 0 {
-        ((refusal, 3, 0, 0), marked(&[], scratch))
-    } else {
-        let place = first_failing(r).map_or((0, 0, 0, 0), |(system, login, row)| (0, 1 + system as u32, login, row));
-        (place, marked(&vec![0; model::room(r).check], scratch))
+    let said = to_check(r, scratch);
+    let none = RowVerdict { code: 0, system: 0, login: 0, row: 0, column: 0 };
+    let verdict = match said {
+        Said::Refused(code) => RowVerdict { code, system: 3, ..none },
+        Said::Stray(login, column) => RowVerdict { system: 4, login, column, ..none },
+        Said::Row(system, login, row) => RowVerdict { system: 1 + system as u32, login, row, ..none },
+        Said::Good => none,
     };
+    let expected = (verdict, marked(&vec![0; said.cleared(r)], scratch));
     let found = library::row_check(r, scratch);
-    let by = if refusal == 0 { By::Rust } else { By::Document };
-    let name = if r.own() { "check::row_check, own columns" } else { "check::row_check" };
+    let (name, by) = said.counted(r);
     tally.compared(name, by, found == expected, || {
         format!("{}\ncheck {scratch}\nexpected {:?}, here {:?}", r.text(), expected.0, found.0)
     });
@@ -275,6 +277,9 @@ fn boundaries(tally: &mut Tally) {
                 r.lens.push(last);
                 verify(tally, &r, &(t.0, counter), &long, most.claims, most.verifier);
                 prove(tally, &r, &(t.0, counter), most.proof + 8, most.claims + 8, most.prover);
+                check(tally, &r, most.check - (counter != 0) as usize);
+                r.matrices[5].put(1, 0, Gf128(1));
+                check(tally, &r, most.check);
             }
         }
     }
@@ -376,8 +381,9 @@ fn both(tally: &mut Tally, r: &mut Random, rel: Relation, kind: Kind) {
         panic!("the Rust turns a good batch back with {code}: {}", rel.text());
     }
     damaged(tally, r, &rel, &t, &proof);
-    // words lent too few, and refusals of the relation
+    // the other side of the search for stray bits; words lent too few, and refusals of the relation
     let room = model::room(&rel);
+    check(tally, &relation::turned(r, &rel), room.check);
     let less = 1 + r.below(3);
     verify(tally, &rel, &t, &proof, room.claims.saturating_sub(less), room.verifier);
     verify(tally, &rel, &t, &proof, room.claims, room.verifier - less);

@@ -88,19 +88,57 @@ pub fn first_failing(rel: &Relation) -> Option<(usize, usize, usize)> {
     None
 }
 
-fn check(sheet: &mut Sheet, rel: &Relation, scratch: usize) {
-    let n = model::check(rel, scratch);
-    let answer = if n == 0 {
-        let verdict = match first_failing(rel) {
-            None => "= good".to_string(),
-            Some((system, login, row)) => format!("= {} {login} {row}", ["bin", "fld"][system]),
+/// What the row check has to say.
+#[derive(Clone, Copy)]
+pub enum Said {
+    Good,
+    /// login and column
+    Stray(usize, usize),
+    /// 0 bin, 1 fld; login and row
+    Row(usize, usize, usize),
+    Refused(u32),
+}
+
+/// A refusal, else the first stray bit, else the first failing row.
+pub fn to_check(rel: &Relation, scratch: usize) -> Said {
+    match model::check(rel, scratch) {
+        0 => {}
+        n => return Said::Refused(n),
+    }
+    if let Some((login, column)) = model::stray(rel) {
+        return Said::Stray(login, column);
+    }
+    first_failing(rel).map_or(Said::Good, |(system, login, row)| Said::Row(system, login, row))
+}
+
+impl Said {
+    /// How many words of scratch are zero after it.
+    pub fn cleared(self, rel: &Relation) -> usize {
+        if let Said::Refused(_) = self { 0 } else { model::room(rel).check }
+    }
+
+    /// Under which name it is counted, and who says so.
+    pub fn counted(self, rel: &Relation) -> (&'static str, By) {
+        let name = match self {
+            Said::Stray(..) => "check::row_check, stray bit",
+            _ if rel.own() => "check::row_check, own columns",
+            _ => "check::row_check",
         };
-        vec![verdict, counted(model::room(rel).check, scratch)]
-    } else {
-        vec![refused(n), counted(0, scratch)]
+        (name, if let Said::Stray(..) | Said::Refused(_) = self { Document } else { Rust })
+    }
+}
+
+fn check(sheet: &mut Sheet, rel: &Relation, scratch: usize) {
+    let said = to_check(rel, scratch);
+    let answer = match said {
+        Said::Good => "= good".to_string(),
+        Said::Stray(login, column) => format!("= stray {login} {column}"),
+        Said::Row(system, login, row) => format!("= {} {login} {row}", ["bin", "fld"][system]),
+        Said::Refused(n) => refused(n),
     };
-    let name = if rel.own() { "check::row_check, own columns" } else { "check::row_check" };
-    sheet.ask_on(name, by(n), &rel.text(), format!("check {scratch}"), answer);
+    let answer = vec![answer, counted(said.cleared(rel), scratch)];
+    let (name, by) = said.counted(rel);
+    sheet.ask_on(name, by, &rel.text(), format!("check {scratch}"), answer);
 }
 
 /// How the program tells of a run: number and transcript, proof, claims, scratch.
@@ -180,6 +218,38 @@ pub fn damage(r: &mut Random, rel: &mut Relation) {
     rel.recut();
 }
 
+/// Every layout of up to three segments over up to eight columns: no bit, each bit of two logins alone, all bits; over 64 to 256 columns
+/// each bit alone, with every layout of one segment. A row of fld fails every other time.
+fn strays(sheet: &mut Sheet) {
+    let mut each = |w: usize, lens: Vec<usize>| {
+        for place in 0..2 * w + 2 {
+            let mut rel = Relation::empty(2 * w, 2, [1, 1], lens.clone());
+            match place.checked_sub(2) {
+                None => rel.packed = vec![u64::MAX * place as u64; rel.packed.len()],
+                Some(k) => rel.set_bit(k / w, k % w, true),
+            }
+            if place % 2 == 0 {
+                rel.matrices[5].put(0, w, Gf128(1));
+            }
+            check(sheet, &rel, 6);
+        }
+    };
+    for log in 0..4 {
+        let lengths: Vec<usize> = (0..=log).map(|k| 1 << k).collect();
+        let mut layouts = vec![vec![]];
+        for _ in 0..3 {
+            let longer = layouts.iter().flat_map(|l| lengths.iter().map(|&n| [&l[..], &[n]].concat())).collect::<Vec<_>>();
+            layouts.extend(longer);
+            layouts.sort();
+            layouts.dedup();
+        }
+        layouts.into_iter().for_each(|lens| each(1 << log, lens));
+    }
+    for log in 6..9 {
+        (0..=log).for_each(|k| each(1 << log, vec![1 << k]));
+    }
+}
+
 /// All rules of one row over two columns and all bits of two logins, with the row check; every v for the masks.
 pub fn exhaustive(sheet: &mut Sheet) {
     for rules in 0..64usize {
@@ -199,6 +269,7 @@ pub fn exhaustive(sheet: &mut Sheet) {
     for scratch in 0..10 {
         check(sheet, &Relation::empty(2, 1, [1, 1], vec![]), scratch);
     }
+    strays(sheet);
     let r = &mut Random(13);
     for s in 0..=7 {
         for v in 0..=8 {
@@ -226,6 +297,7 @@ pub fn own(sheet: &mut Sheet, r: &mut Random) {
     verified(sheet, r, &rel);
     let (room, slack) = (model::room(&rel), r.below(3));
     check(sheet, &rel, room.check + slack);
+    check(sheet, &relation::turned(r, &rel), room.check);
     let mut bad = rel.clone();
     damage(r, &mut bad);
     check(sheet, &bad, room.check);
@@ -244,6 +316,7 @@ pub fn random(sheet: &mut Sheet, r: &mut Random) {
     let slack = r.below(4);
     check(sheet, &rel, room.check + slack);
     check(sheet, &rel, (room.check - 1).saturating_sub(slack));
+    check(sheet, &relation::turned(r, &rel), room.check);
     let (alphas, pb, pf) = (words(&r.elements(6)), words(&r.elements(log2(rows[0]))), words(&r.elements(log2(rows[1]))));
     let need = 2 * m + 2 * rows[0].max(rows[1]);
     combo(sheet, &rel, &alphas, &pb, &pf, 2 * m + slack, need + slack);
