@@ -1,4 +1,5 @@
-/* Each function but those of a run, which vault.c shows: with an answer, document 01's marked rows among them, and a refusal. */
+/* Each function but those of a run, which vault.c shows: with an answer, document 01's marked rows among them, and a refusal. The row check
+ * is in both. */
 #include "magnetar.h"
 
 #include <stdio.h>
@@ -222,6 +223,24 @@ static void matrices(void)
     masks("of other values:", &marked, packed, 1);
 }
 
+/* What the row check finds in two logins with the public element 5 each, whose segments have these lengths. */
+static void check(const char *what, magnetar_relation r, const size_t *lens, size_t n, const uint64_t *packed)
+{
+    uint64_t x[] = {5, 0, 5, 0}, scratch[MAGNETAR_CHECK_SCRATCH(2, 2)];
+    r.q = 2;
+    r.lens = lens;
+    r.segments = n;
+    magnetar_row_verdict v = magnetar_check(&r, packed, 4, x, COUNT(x), scratch, COUNT(scratch));
+    if (v.system == MAGNETAR_REFUSED)
+        printf("%s refused %u\n", what, v.code);
+    else if (v.system == MAGNETAR_STRAY)
+        printf("%s stray bit, login %zu, column %zu\n", what, v.login, v.column);
+    else if (v.system == MAGNETAR_GOOD)
+        printf("%s good\n", what);
+    else
+        printf("%s %s, login %zu, row %zu\n", what, v.system == MAGNETAR_FAILS_BIN ? "bin" : "fld", v.login, v.row);
+}
+
 static void batch(void)
 {
     layout("segments 4, 1, 8 in 16:", 16, (size_t[]){4, 1, 8}, 3);
@@ -241,6 +260,11 @@ static void batch(void)
     show_digest("relation:", magnetar_digest_of(&r).digest);
     say("combined table:", magnetar_combo(&r, alphas, 12, point, 2, point + 2, 2, out, 8, scratch, 12), out, 8);
     say("with five alphas:", magnetar_combo(&r, alphas, 10, point, 2, point + 2, 2, out, 8, scratch, 12), out, 8);
+    check("row check, both columns in a segment:", r, (size_t[]){2}, 1, packed);
+    check("row check, column 0 in a segment:", r, (size_t[]){1}, 1, packed);
+    check("of the words 1 and 1:", r, (size_t[]){1}, 1, (uint64_t[]){1, 0, 1, 0});
+    check("with a segment of 3:", r, (size_t[]){3}, 1, packed);
+    check("with segments of 2 and 1:", r, (size_t[]){2, 1}, 2, packed);
     r.m = 8;
     printf("its digest with other columns: refused %u\n", magnetar_digest_of(&r).code);
     say("with other columns:", magnetar_combo(&r, alphas, 12, point, 2, point + 2, 2, out, 8, scratch, 12), out, 8);

@@ -313,20 +313,30 @@ uint32_t magnetar_build_m_combo(
     size_t row_len, const size_t *col, size_t col_len, const uint64_t *lo, size_t lo_len, const uint64_t *hi, size_t hi_len,
     const uint64_t *alphas, size_t alphas_len, const uint64_t *pb, size_t pb_len, const uint64_t *pf, size_t pf_len);
 
-/* Whether a batch keeps the rules, in plain: for each login z is its bits, a 1 and its public elements, and a row holds where the
- * product of A z and B z is C z. Words of a login are two for each 128 columns, the lowest bit that of column 0; bits past the columns
- * are not read. Refuses 1 to 7 and 15; the scratch is cleared unless the call is refused. */
+/* Whether a batch is good, in plain: no bit is set outside the segments, whose lengths are lens, and every row holds for every login. For
+ * each login z is its bits, a 1 and its public elements, and a row holds where the product of A z and B z is C z. Words of a login are two
+ * for each 128 columns, the lowest bit that of column 0; bits past the columns never matter. A bit that is set in a column of no segment is
+ * a stray bit; it is told before any row that fails. Refuses 1 to 10 and 15; the scratch is cleared unless the call is refused. */
+enum {
+    MAGNETAR_GOOD = 0,
+    MAGNETAR_FAILS_BIN = 1, /* no stray bit, but a row of bin fails */
+    MAGNETAR_FAILS_FLD = 2, /* no stray bit, every row of bin holds, but a row of fld fails */
+    MAGNETAR_REFUSED = 3,   /* the call is refused */
+    MAGNETAR_STRAY = 4      /* a stray bit */
+};
+
 typedef struct {
     uint32_t code;   /* a refusal or 0 */
-    uint32_t system; /* 0: every row holds; 1: a row of bin fails, 2: none of bin but one of fld; 3: the call is refused */
-    size_t login;    /* the lowest login with such a row, and its lowest row; 0 where there is none */
-    size_t row;
+    uint32_t system; /* one of the five above */
+    size_t login;    /* the lowest login with such a row or bit; here and below 0 where there is none */
+    size_t row;      /* the lowest of its rows that fail */
+    size_t column;   /* the lowest column of its stray bits */
 } magnetar_row_verdict;
 
 magnetar_row_verdict magnetar_row_check(
-    uint64_t *scratch, size_t scratch_len, size_t m, size_t q, magnetar_shapes shapes, const size_t *row, size_t row_len,
-    const size_t *col, size_t col_len, const uint64_t *lo, size_t lo_len, const uint64_t *hi, size_t hi_len,
-    const uint64_t *packed, size_t packed_len, const uint64_t *x, size_t x_len);
+    uint64_t *scratch, size_t scratch_len, size_t m, size_t q, const size_t *lens, size_t lens_len, magnetar_shapes shapes,
+    const size_t *row, size_t row_len, const size_t *col, size_t col_len, const uint64_t *lo, size_t lo_len, const uint64_t *hi,
+    size_t hi_len, const uint64_t *packed, size_t packed_len, const uint64_t *x, size_t x_len);
 
 /* Proves a batch, whether it is good or not, and gives the claims: the shared challenges, those of the columns but the last, and a value
  * for each segment. Refuses 1 to 10, 14 and 15. */
@@ -372,7 +382,7 @@ static inline uint32_t magnetar_combo(const magnetar_relation *r, const uint64_t
 static inline magnetar_row_verdict magnetar_check(const magnetar_relation *r, const uint64_t *packed, size_t packed_len,
                                                   const uint64_t *x, size_t x_len, uint64_t *scratch, size_t scratch_len)
 {
-    return magnetar_row_check(scratch, scratch_len, r->m, r->q, MAGNETAR_LEND_(r), packed, packed_len, x, x_len);
+    return magnetar_row_check(scratch, scratch_len, r->m, r->q, r->lens, r->segments, MAGNETAR_LEND_(r), packed, packed_len, x, x_len);
 }
 
 static inline magnetar_answer magnetar_prove(const magnetar_relation *r, const uint64_t *packed, size_t packed_len, const uint64_t *x,

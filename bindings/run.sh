@@ -1,6 +1,6 @@
 #!/usr/bin/env bash
-# Proves and archives the library, builds the C examples and the Rust ones over it and runs them and the Rust crate's test: the first
-# example of each language writes example.stdout, both write the same, and each verifies what the other proved. Needs rt, cc and cargo.
+# Proves and archives the library, builds the C examples and the Rust ones over it and runs them and the Rust crate's test: the examples of
+# each language write example.stdout and vault.stdout, and each verifies what the other proved. Needs rt, cc and cargo.
 set -euo pipefail
 cd "$(dirname "$0")/.."
 rt staticlib magnetar_c >/dev/null
@@ -21,6 +21,7 @@ cmp "$out/example.rust.txt" bindings/example.stdout
 cmp "$out/proof.c.txt" "$out/proof.rust.txt"
 "$out/vault_c" verify <"$out/proof.rust.txt" >"$out/verdict.c.txt"
 "$out/vault_rust" verify <"$out/proof.c.txt" >"$out/verdict.rust.txt"
-cmp "$out/verdict.c.txt" "$out/verdict.rust.txt"
+cmp "$out/verdict.c.txt" bindings/vault.stdout
+cmp "$out/verdict.rust.txt" bindings/vault.stdout
 cat "$out/example.c.txt" "$out/verdict.c.txt"
 echo "C and Rust wrote the same, and each accepted what the other proved"

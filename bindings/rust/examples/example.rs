@@ -176,6 +176,19 @@ fn matrices() {
     say_numbers("of other values:", marked.apply_simd_bit_masks(&logins, 4, 2, 1));
 }
 
+/// What the row check finds in two logins with the public element 5 each, whose segments have these lengths.
+fn check(what: &str, r: &Relation, lens: &[usize], packed: &[u64]) {
+    let r = Relation { q: 2, segments: lens.to_vec(), ..r.clone() };
+    let found = row_check(&r, packed, &repeat_columns(&smalls(&[5]), 2));
+    let words = found.map(|found| match found {
+        RowCheck::Good => " good".to_string(),
+        RowCheck::Stray { login, column } => format!(" stray bit, login {login}, column {column}"),
+        RowCheck::Bin { login, row } => format!(" bin, login {login}, row {row}"),
+        RowCheck::Fld { login, row } => format!(" fld, login {login}, row {row}"),
+    });
+    say(what, words);
+}
+
 fn batch() {
     say_numbers("segments 4, 1, 8 in 16:", layout_build(16, &[4, 1, 8]));
     say_numbers("segments 1, 8, 8 in 16:", layout_build(16, &[1, 8, 8]));
@@ -191,6 +204,11 @@ fn batch() {
     println!("relation: {}", digits(relation_digest(&r).unwrap()));
     say_words("combined table:", build_m_combo(&r, &alphas, &point[..2], &point[2..]));
     say_words("with five alphas:", build_m_combo(&r, &alphas[..10], &point[..2], &point[2..]));
+    check("row check, both columns in a segment:", &r, &[2], &packed);
+    check("row check, column 0 in a segment:", &r, &[1], &packed);
+    check("of the words 1 and 1:", &r, &[1], &[1, 0, 1, 0]);
+    check("with a segment of 3:", &r, &[3], &packed);
+    check("with segments of 2 and 1:", &r, &[2, 1], &packed);
     r.m = 8;
     say("its digest with other columns:", relation_digest(&r).map(digits));
     say_words("with other columns:", build_m_combo(&r, &alphas, &point[..2], &point[2..]));

@@ -2,12 +2,12 @@
 use crate::sys::{self, Answer, DigestAnswer, RowVerdict, Transcript};
 use crate::Rules;
 
-/// The row check of q logins of m columns.
-pub fn row_check(scratch: &mut [u64], m: usize, q: usize, r: &Rules, packed: &[u64], x: &[u64]) -> RowVerdict {
+/// The row check of q logins of m columns, with segments of these lengths.
+pub fn row_check(scratch: &mut [u64], m: usize, q: usize, lens: &[usize], r: &Rules, packed: &[u64], x: &[u64]) -> RowVerdict {
     // SAFETY: here and below each pointer and length are of one slice, and what is written is borrowed as `&mut`.
     unsafe {
         sys::magnetar_row_check(
-            scratch.as_mut_ptr(), scratch.len(), m, q,
+            scratch.as_mut_ptr(), scratch.len(), m, q, lens.as_ptr(), lens.len(),
             r.shapes, r.row.as_ptr(), r.row.len(), r.col.as_ptr(), r.col.len(), r.lo.as_ptr(), r.lo.len(), r.hi.as_ptr(), r.hi.len(),
             packed.as_ptr(), packed.len(), x.as_ptr(), x.len(),
         )

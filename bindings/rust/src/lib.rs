@@ -34,7 +34,7 @@ pub use matrix::Matrix;
 pub use refusal::Refusal;
 pub use rounds::{inner_message, outer_message, round_capturing, round_external};
 pub use run::{
-    build_m_combo, fold_packed_w, layout_build, prove, relation_digest, repeat_columns, row_check, verify, Claims, Failing, Relation, Rules,
+    build_m_combo, fold_packed_w, layout_build, prove, relation_digest, repeat_columns, row_check, verify, Claims, Relation, RowCheck, Rules,
 };
 pub use sys::{Digest, Element, Shape, Shapes, SystemShape, Transcript};
 pub use tables::{bind_var, drop_var, eq_build, eval_mle, fold_instances, mul, words};

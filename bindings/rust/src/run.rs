@@ -1,5 +1,5 @@
 //! Layouts, folds, the combined table, and the row check, the prover and the verifier of a batch.
-use crate::sys::{self, Digest, Shape, Shapes, SystemShape, Transcript};
+use crate::sys::{self, Digest, RowVerdict, Shape, Shapes, SystemShape, Transcript};
 use crate::{lent, log, room, Matrix, Refusal};
 
 /// A, B, C of bin, then A, B, C of fld: their shapes, and their entries one behind the other. The library refuses lists of unequal
@@ -171,20 +171,31 @@ pub fn build_m_combo(r: &Relation, alphas: &[u64], pb: &[u64], pf: &[u64]) -> Re
     Ok(out)
 }
 
-/// A row that does not hold: the lowest row of the lowest login, bin before fld.
+/// What the row check finds.
 #[derive(Clone, Copy, Debug, PartialEq, Eq)]
-pub struct Failing {
-    pub fld: bool,
-    pub login: usize,
-    pub row: usize,
+pub enum RowCheck {
+    /// No bit is set outside the segments, and every row of both systems holds for every login.
+    Good,
+    /// A bit is set in a column of no segment: the lowest login with one, and its lowest such column.
+    Stray { login: usize, column: usize },
+    /// No stray bit, but a row of bin does not hold: the lowest login with one, and its lowest such row.
+    Bin { login: usize, row: usize },
+    /// Neither, but a row of fld does not hold.
+    Fld { login: usize, row: usize },
 }
 
-/// The first row that does not hold, or none; `packed` holds the bits of the logins, `x` the words of their public elements.
-pub fn row_check(r: &Relation, packed: &[u64], x: &[u64]) -> Result<Option<Failing>, Refusal> {
+/// Whether a batch is good, or what is found first; `packed` holds the bits of the logins, `x` the words of their public elements.
+pub fn row_check(r: &Relation, packed: &[u64], x: &[u64]) -> Result<RowCheck, Refusal> {
     let mut scratch = room(r.check_scratch());
-    let found = lent::row_check(&mut scratch, r.m, r.q, &r.rules, packed, x);
-    Refusal::check(found.code)?;
-    Ok((found.system != 0).then_some(Failing { fld: found.system == 2, login: found.login, row: found.row }))
+    let RowVerdict { code, system, login, row, column } = lent::row_check(&mut scratch, r.m, r.q, &r.segments, &r.rules, packed, x);
+    Refusal::check(code)?;
+    Ok(match system {
+        1 => RowCheck::Bin { login, row },
+        2 => RowCheck::Fld { login, row },
+        4 => RowCheck::Stray { login, column },
+        0 => RowCheck::Good,
+        other => unreachable!("the library answered {other}"),
+    })
 }
 
 /// A proof of a batch, whether it is good or not, and the claims.

@@ -82,7 +82,8 @@ pub struct DigestAnswer {
     pub digest: Digest,
 }
 
-/// `system` is 0 where every row holds, 1 for a row of bin, 2 for one of fld, 3 where the call is refused.
+/// `system` is 0 where the batch is good, 1 for a row of bin, 2 for one of fld, 3 where the call is refused, 4 for a stray bit at `column`.
+/// What is not there is 0.
 #[repr(C)]
 #[derive(Clone, Copy, Debug, PartialEq, Eq)]
 pub struct RowVerdict {
@@ -90,6 +91,7 @@ pub struct RowVerdict {
     pub system: u32,
     pub login: usize,
     pub row: usize,
+    pub column: usize,
 }
 
 /// A matrix: how many rows, columns and entries it has.
@@ -260,6 +262,7 @@ extern "C" {
     pub fn magnetar_row_check(
         scratch: *mut u64, scratch_len: usize,
         m: usize, q: usize,
+        lens: *const usize, lens_len: usize,
         shapes: Shapes,
         row: *const usize, row_len: usize, col: *const usize, col_len: usize,
         lo: *const u64, lo_len: usize, hi: *const u64, hi_len: usize,

@@ -90,7 +90,7 @@ fn verify(packed: &[u64], x: &[u64], committed: [u8; 32], proof: &[u64], office:
     let mut claims = [0u64; 20];
     let mut scratch = [0u64; rules::VERIFIER_SCRATCH];
     let t = vault::start(x, committed);
-    let r = rules::verify(&mut claims, &mut scratch, 4, x, proof, t);
+    let r = rules::verify(&mut claims, &mut scratch, 4, &rules::SEGMENTS, x, proof, t);
     print(b"verify     ");
     refusal::say(r.code, b"accepted");
     print_same(&claims, office);
@@ -102,7 +102,7 @@ fn verify(packed: &[u64], x: &[u64], committed: [u8; 32], proof: &[u64], office:
 
 // What both ends bind before the run.
 fn print_bound(committed: [u8; 32]) {
-    let digest = rules::digest();
+    let digest = rules::digest(&rules::SEGMENTS);
     print(b"commit     ");
     text::bytes(&committed);
     print(b", a hash of the packed words: it stands in for a commitment to the bits\n");
@@ -120,6 +120,7 @@ fn go_wrong(packed: &[u64], x: &[u64], committed: [u8; 32], proof: &[u64], claim
     wrong::other_bits(packed, x, committed);
     wrong::batches(packed, x);
     wrong::columns(packed, x);
+    wrong::templates(packed, x);
     wrong::sizes(packed, x, committed, proof);
 }
 
@@ -129,7 +130,16 @@ fn prove(packed: &[u64], x: &[u64], committed: [u8; 32]) {
     let mut claims = [0u64; 20];
     let mut scratch = [0u64; rules::PROVER_SCRATCH];
     let t = vault::start(x, committed);
-    let r = rules::prove(&mut proof, &mut claims, &mut scratch, 4, packed, x, t);
+    let r = rules::prove(
+        &mut proof,
+        &mut claims,
+        &mut scratch,
+        4,
+        &rules::SEGMENTS,
+        packed,
+        x,
+        t,
+    );
     print(b"prove      ");
     refusal::say(r.code, b"done");
     print(b", ");

@@ -10,8 +10,8 @@
 //                1        (f0 + f1 x + f2 x^2 + f3 x^3) * 1 = folder
 //                2        (e0 + e1 x) * 1 = edition
 //                3        empty
-use magnetar_batch::check;
-use magnetar_batch::check::RowCheck;
+use magnetar_check::check;
+use magnetar_check::check::RowCheck;
 use magnetar_digest::digest;
 use magnetar_hash::transcript::Transcript;
 use magnetar_hash::transcript::TranscriptAnswer;
@@ -37,6 +37,9 @@ pub(crate) const PROVER_SCRATCH: usize = 8 * Q * (BIN + FLD) + 8 * M + 4 * BIN +
 pub(crate) const PUBLIC: usize = Q * (M - 2);
 
 pub(crate) const SEGMENTS: [usize; 3] = [8, 8, 8];
+
+// Those of the office's template: two more, at column 24 and from column 28 on. Columns 25 to 27 are padding.
+pub(crate) const TEMPLATE: [usize; 5] = [8, 8, 8, 1, 4];
 
 // The rows and columns of the entries of each matrix; those of row 8 of A of bin, the sum with the checksum, stand apart.
 const AB_ROW: [usize; 12] = [0, 0, 1, 1, 2, 2, 3, 3, 4, 5, 6, 7];
@@ -156,20 +159,37 @@ fn shapes() -> Shapes {
 }
 
 // The digest of the rules for four logins: sizes, segments and entries.
-pub(crate) fn digest() -> [u8; 32] {
+pub(crate) fn digest(lens: &[usize]) -> [u8; 32] {
     let row = rows();
     let col = cols();
     let lo = lows();
-    let r = digest::relation_digest(M, Q, &SEGMENTS, shapes(), &row, &col, &lo, &HI);
+    let r = digest::relation_digest(M, Q, lens, shapes(), &row, &col, &lo, &HI);
     r.digest
 }
 
-// The first row that fails.
-pub(crate) fn row_check(scratch: &mut [u64], q: usize, packed: &[u64], x: &[u64]) -> RowCheck {
+// The first stray bit, or the first row that fails.
+pub(crate) fn row_check(
+    scratch: &mut [u64],
+    lens: &[usize],
+    packed: &[u64],
+    x: &[u64],
+) -> RowCheck {
     let row = rows();
     let col = cols();
     let lo = lows();
-    check::row_check(scratch, M, q, shapes(), &row, &col, &lo, &HI, packed, x)
+    check::row_check(
+        scratch,
+        M,
+        Q,
+        lens,
+        shapes(),
+        &row,
+        &col,
+        &lo,
+        &HI,
+        packed,
+        x,
+    )
 }
 
 // The office's end.
@@ -178,6 +198,7 @@ pub(crate) fn prove(
     claims: &mut [u64],
     scratch: &mut [u64],
     q: usize,
+    lens: &[usize],
     packed: &[u64],
     x: &[u64],
     t: Transcript,
@@ -191,7 +212,7 @@ pub(crate) fn prove(
         scratch,
         M,
         q,
-        &SEGMENTS,
+        lens,
         shapes(),
         &row,
         &col,
@@ -208,6 +229,7 @@ pub(crate) fn verify(
     claims: &mut [u64],
     scratch: &mut [u64],
     q: usize,
+    lens: &[usize],
     x: &[u64],
     proof: &[u64],
     t: Transcript,
@@ -220,7 +242,7 @@ pub(crate) fn verify(
         scratch,
         M,
         q,
-        &SEGMENTS,
+        lens,
         shapes(),
         &row,
         &col,

@@ -117,7 +117,12 @@ fn joined(a: [u8; 32], b: [u8; 32]) -> [u8; 64] {
 // The transcript that both ends start with, bound to the rules, to the commitment and to the public words before anything is drawn
 // from it.
 pub(crate) fn start(x: &[u64], committed: [u8; 32]) -> Transcript {
-    let parts = joined(rules::digest(), committed);
+    start_of(&rules::SEGMENTS, x, committed)
+}
+
+// The same of rules with these segments.
+pub(crate) fn start_of(lens: &[usize], x: &[u64], committed: [u8; 32]) -> Transcript {
+    let parts = joined(rules::digest(lens), committed);
     let t = transcript::new(b"vault", &parts, &[32, 32]);
     let r = transcript::absorb_field(t.transcript, b"public words", x);
     r.transcript

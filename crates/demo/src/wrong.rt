@@ -1,12 +1,12 @@
-// What goes wrong: a word of the proof, public words chosen after it, other bits than the committed ones, a login, a bit outside the
-// segments, public columns, a size.
+// What goes wrong: a word of the proof, public words chosen after it, other bits than the committed ones, a login, public columns, padding
+// bits between two segments, a size.
 use crate::opened;
 use crate::refusal;
 use crate::rules;
 use crate::text;
 use crate::text::print;
 use crate::vault;
-use magnetar_batch::check::RowCheck;
+use magnetar_check::check::RowCheck;
 use magnetar_field::words;
 use magnetar_hash::transcript::Transcript;
 
@@ -18,9 +18,20 @@ fn print_place(u: usize, i: usize) {
     print(b" does not hold\n");
 }
 
+fn print_stray(u: usize, y: usize) {
+    print(b"stray bit: login ");
+    text::count(u);
+    print(b", column ");
+    text::count(y);
+    print(b", which no segment has\n");
+}
+
 fn print_verdict(r: RowCheck) {
     match r {
-        RowCheck::Good => print(b"good: every row of both systems holds for every login\n"),
+        RowCheck::Good => print(
+            b"good: no stray bit, and every row of both systems holds for every login\n",
+        ),
+        RowCheck::Stray(u, y) => print_stray(u, y),
         RowCheck::Bin(u, i) => {
             print(b"bin, ");
             print_place(u, i);
@@ -36,14 +47,14 @@ fn print_verdict(r: RowCheck) {
 // What the row check says.
 pub(crate) fn check(packed: &[u64], x: &[u64]) {
     let mut scratch = [0u64; 96];
-    print_verdict(rules::row_check(&mut scratch, 4, packed, x));
+    print_verdict(rules::row_check(&mut scratch, &rules::SEGMENTS, packed, x));
 }
 
 // What the laptop says about a proof of q logins.
 fn verified(q: usize, x: &[u64], proof: &[u64], t: Transcript) {
     let mut claims = [0u64; 20];
     let mut scratch = [0u64; rules::VERIFIER_SCRATCH];
-    let r = rules::verify(&mut claims, &mut scratch, q, x, proof, t);
+    let r = rules::verify(&mut claims, &mut scratch, q, &rules::SEGMENTS, x, proof, t);
     refusal::line(r.code);
 }
 
@@ -57,7 +68,16 @@ fn prove(
     claims: &mut [u64],
 ) -> u32 {
     let mut scratch = [0u64; rules::PROVER_SCRATCH];
-    let r = rules::prove(proof, claims, &mut scratch, q, packed, x, t);
+    let r = rules::prove(
+        proof,
+        claims,
+        &mut scratch,
+        q,
+        &rules::SEGMENTS,
+        packed,
+        x,
+        t,
+    );
     r.code
 }
 
@@ -144,7 +164,7 @@ fn claimed(packed: &[u64], x: &[u64], committed: [u8; 32], proof: &[u64]) {
     let mut claims = [0u64; 20];
     let mut scratch = [0u64; rules::VERIFIER_SCRATCH];
     let t = vault::start(x, committed);
-    let r = rules::verify(&mut claims, &mut scratch, 4, x, proof, t);
+    let r = rules::verify(&mut claims, &mut scratch, 4, &rules::SEGMENTS, x, proof, t);
     print(b"  verify     ");
     refusal::line(r.code);
     print(b"  claims     ");
@@ -199,13 +219,6 @@ pub(crate) fn batches(packed: &[u64], x: &[u64]) {
         packed,
         x,
     );
-    login(
-        b"login 3 has a stray bit at column 24, which no rule reads and no segment has",
-        3,
-        vault::login(0x80, 1, 1, 9) | 0x1000000,
-        packed,
-        x,
-    );
 }
 
 // ---- Public columns.
@@ -220,6 +233,66 @@ pub(crate) fn columns(packed: &[u64], x: &[u64]) {
     check(packed, &other);
     print(b"  verify     ");
     proved(packed, &other);
+}
+
+// ---- Padding bits.
+
+// The vault whose logins 1 and 3 are made from the template, with these bits from column 24 on.
+fn made(packed: &[u64], bits: u64) -> [u64; 8] {
+    let mut out = [0u64; 8];
+    words::copy(packed, &mut out);
+    vault::put(&mut out, 1, vault::login(0xa7, 1, 3, 5) | bits);
+    vault::put(&mut out, 3, vault::login(0x80, 1, 1, 9) | bits);
+    out
+}
+
+// What the laptop says about a proof under the template's segments.
+fn template_verified(x: &[u64], proof: &[u64], t: Transcript) {
+    let mut claims = [0u64; 24];
+    let mut scratch = [0u64; rules::VERIFIER_SCRATCH];
+    let r = rules::verify(&mut claims, &mut scratch, 4, &rules::TEMPLATE, x, proof, t);
+    print(b"  verify     ");
+    refusal::line(r.code);
+}
+
+// The office's proof, which it makes whether the batch is good or not.
+fn template_proved(packed: &[u64], x: &[u64]) {
+    let mut proof = [0u64; 140];
+    let mut claims = [0u64; 24];
+    let mut scratch = [0u64; rules::PROVER_SCRATCH];
+    let t = vault::start_of(&rules::TEMPLATE, x, vault::commitment(packed));
+    let r = rules::prove(
+        &mut proof,
+        &mut claims,
+        &mut scratch,
+        4,
+        &rules::TEMPLATE,
+        packed,
+        x,
+        t,
+    );
+    print(b"  prove      ");
+    refusal::say(r.code, b"done");
+    print(b"\n");
+    template_verified(x, &proof, t);
+}
+
+// What the row check says, and both ends.
+fn template(packed: &[u64], x: &[u64]) {
+    let mut scratch = [0u64; 96];
+    print(b"  row check  ");
+    print_verdict(rules::row_check(&mut scratch, &rules::TEMPLATE, packed, x));
+    template_proved(packed, x);
+}
+
+// Columns 24, 28 and 30 are set, and eight bits past the 32 columns; before they are cleared, columns 25 to 27 too.
+pub(crate) fn templates(packed: &[u64], x: &[u64]) {
+    print(
+        b"the office's template has two segments more, 24 and 28-31; in logins 1 and 3 it left the padding between them set\n",
+    );
+    template(&made(packed, 0xff5f000000), x);
+    print(b"the padding is cleared; bits past the 32 columns stay set and never matter\n");
+    template(&made(packed, 0xff51000000), x);
 }
 
 // ---- A size.

@@ -1,12 +1,12 @@
 -- The structs that cross to C and what they carry: structs of the crates below with the same fields under the same names, and the
 -- answers that are an enum below.
--- Source: document 01, "Forms that give way", as structs that C can hold.
+-- Source: document 01, "Forms that give way", as structs that C can hold; document 02, U3 (a stray bit).
 -- Assumes nothing.
 use mathlib.Core.Bool.{false}
 use Prim.Native.Nat.{_/_, _%_, _^_}
-use Rattle.magnetar_matrix.specs.RowCheck.Verdict.{good, bin, fld}
-use Rattle.magnetar_batch.specs.Check.{Outcome}
-use Rattle.magnetar_batch.specs.Check.Outcome.{judged, refused}
+use Rattle.magnetar_matrix.specs.RowCheck.Verdict.{good, stray, bin, fld}
+use Rattle.magnetar_check.specs.Check.{Outcome}
+use Rattle.magnetar_check.specs.Check.Outcome.{judged, refused}
 use Rattle.magnetar_multilinear.specs.Entries.{Answer}
 use Rattle.magnetar_multilinear.specs.Entries.Answer.{element as found, refusal as notFound}
 use Rattle.magnetar_r1cs.specs.Entries.{Flagged}
@@ -49,12 +49,14 @@ digest a = record { code = a .code; digest = a .digest .bytes }
 abbrev pub drawn : MagnetarDraw → DrawAnswer
 drawn d = record { code = d .code; element = element (d .element); transcript = transcript (d .transcript) }
 
--- the answer of the row check: system 0 where every row holds, 1 and 2 with the row of bin and fld that does not, 3 with a refusal's number
+-- the answer of the row check: system 0 where the batch is good, 1 and 2 with the row of bin and fld that does not hold, 3 with a refusal's
+-- number, 4 with the column of the stray bit
 unfoldable pub rowCheckAnswer : Outcome → MagnetarRowCheck
-rowCheckAnswer (judged good) = record { code = 0; system = 0; login = 0; row = 0 }
-rowCheckAnswer (judged (bin u i)) = record { code = 0; system = 1; login = u; row = i }
-rowCheckAnswer (judged (fld u i)) = record { code = 0; system = 2; login = u; row = i }
-rowCheckAnswer (refused n) = record { code = n; system = 3; login = 0; row = 0 }
+rowCheckAnswer (judged good) = record { code = 0; system = 0; login = 0; row = 0; column = 0 }
+rowCheckAnswer (judged (stray u y)) = record { code = 0; system = 4; login = u; row = 0; column = y }
+rowCheckAnswer (judged (bin u i)) = record { code = 0; system = 1; login = u; row = i; column = 0 }
+rowCheckAnswer (judged (fld u i)) = record { code = 0; system = 2; login = u; row = i; column = 0 }
+rowCheckAnswer (refused n) = record { code = n; system = 3; login = 0; row = 0; column = 0 }
 
 -- what a round of the verifier leaves
 abbrev pub round : MagnetarRound → Round

@@ -1,5 +1,5 @@
 // The structs that cross to C, and the functions that take them from the structs of the crates below and back.
-use magnetar_batch::check::RowCheck;
+use magnetar_check::check::RowCheck;
 use magnetar_field::gf128::Evaluated;
 use magnetar_field::gf128::Gf128;
 use magnetar_hash::sha3::DigestAnswer;
@@ -12,7 +12,7 @@ use magnetar_sumcheck_verifier::verify::Round;
 ghost use mathlib.Core.Path.{_≡_};
 ghost use Rattle.magnetar_multilinear.specs.Entries.{answer};
 ghost use Rattle.magnetar_r1cs.specs.Entries.{flagged};
-ghost use Rattle.magnetar_batch.specs.Check.{outcome};
+ghost use Rattle.magnetar_check.specs.Check.{outcome};
 ghost use Rattle.magnetar_c.specs.CStructs as across;
 
 // An element: the low word first.
@@ -43,14 +43,15 @@ pub struct MagnetarDraw {
     pub transcript: MagnetarTranscript,
 }
 
-// The answer of the row check: a refusal or 0; then where the first failing row is, the system 0 of a good batch, 1 of bin, 2 of fld,
-// and 3 of a call that is refused.
+// The answer of the row check: a refusal or 0; then what was found, 0 nothing, 1 a failing row of bin, 2 one of fld, 3 a refusal, 4 a stray
+// bit; then the login, the failing row, and the column of the stray bit. What is not there is 0.
 #[repr(C)]
 pub struct MagnetarRowCheck {
     pub code: u32,
     pub system: u32,
     pub login: usize,
     pub row: usize,
+    pub column: usize,
 }
 
 // An element, 0 where the call is refused.
@@ -166,24 +167,35 @@ pub(crate) fn check_out(c: RowCheck) -> MagnetarRowCheck
             system: 0,
             login: 0,
             row: 0,
+            column: 0,
+        },
+        RowCheck::Stray(u, y) => MagnetarRowCheck {
+            code: 0,
+            system: 4,
+            login: u,
+            row: 0,
+            column: y,
         },
         RowCheck::Bin(u, i) => MagnetarRowCheck {
             code: 0,
             system: 1,
             login: u,
             row: i,
+            column: 0,
         },
         RowCheck::Fld(u, i) => MagnetarRowCheck {
             code: 0,
             system: 2,
             login: u,
             row: i,
+            column: 0,
         },
         RowCheck::Refused(n) => MagnetarRowCheck {
             code: n,
             system: 3,
             login: 0,
             row: 0,
+            column: 0,
         },
     }
 }

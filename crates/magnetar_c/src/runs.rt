@@ -5,9 +5,9 @@ use crate::across::MagnetarAnswer;
 use crate::across::MagnetarDigestAnswer;
 use crate::across::MagnetarRowCheck;
 use crate::across::MagnetarTranscript;
-use magnetar_batch::check;
 use magnetar_batch::combo;
 use magnetar_batch::fold;
+use magnetar_check::check;
 use magnetar_digest::digest;
 use magnetar_layout::layout;
 use magnetar_relation::shapes::Shapes;
@@ -17,7 +17,7 @@ ghost use mathlib.Core.List.{[]};
 ghost use Rattle.magnetar_layout.specs.Entries.{buildRefusal, buildOut};
 ghost use Rattle.magnetar_relation.specs.Rules.{rules};
 ghost use Rattle.magnetar_digest.specs.Digest.{digestAnswer};
-ghost use Rattle.magnetar_batch.specs.Check.{checkOutcome};
+ghost use Rattle.magnetar_check.specs.Check.{checkOutcome};
 ghost use Rattle.magnetar_batch.specs.Entries.{foldRefusal, foldOut, foldScratch, combined, comboOutcome};
 ghost use Rattle.magnetar_spartan.specs.Outcome.{verified, verifyOutcome, proved, proveOutcome};
 ghost use Rattle.magnetar_spartan.specs.Theorems.{AcceptedCall, ProvedCall};
@@ -92,12 +92,14 @@ pub extern "C" fn magnetar_build_m_combo(
     combo::build_m_combo(out, scratch, m, sh, row, col, lo, hi, alphas, pb, pf)
 }
 
-// The first row that fails: bin before fld, then the lowest login, then the lowest row.
+// The first stray bit, a bit that is set outside the segments: the lowest login, then the lowest column. Without one the first row that
+// fails: bin before fld, then the lowest login, then the lowest row.
 #[no_mangle]
 pub extern "C" fn magnetar_row_check(
     scratch: &mut [u64],
     m: usize,
     q: usize,
+    lens: &[usize],
     sh: Shapes,
     row: &[usize],
     col: &[usize],
@@ -106,11 +108,11 @@ pub extern "C" fn magnetar_row_check(
     packed: &[u64],
     x: &[u64],
 ) -> MagnetarRowCheck
-    ensures { λ r. ⌜ (let o = checkOutcome (rules m q [] sh (now (row .entry)) (now (col .entry)) (now (lo .entry)) (now (hi .entry)))
-        (now (packed .entry)) (now (x .entry)) (now (scratch .entry)) in
+    ensures { λ r. ⌜ (let R = rules m q (now (lens .entry)) sh (now (row .entry)) (now (col .entry)) (now (lo .entry)) (now (hi .entry)) in
+        let o = checkOutcome R (now (packed .entry)) (now (x .entry)) (now (scratch .entry)) in
         (r ≡ across.rowCheckAnswer (o .answer)) × (now (scratch .exit) ≡ o .scratch)) ⌝ }
 {
-    across::check_out(check::row_check(scratch, m, q, sh, row, col, lo, hi, packed, x))
+    across::check_out(check::row_check(scratch, m, q, lens, sh, row, col, lo, hi, packed, x))
 }
 
 // The proof and the claims of a batch.

@@ -1,7 +1,7 @@
 -- `magnetar_c::runs::magnetar_row_check` meets its contract.
 -- Assumes nothing.
 use mathlib.Core.Path.{ap, _∙_}
-use Rattle.magnetar_batch.specs.Check.{Checked}
+use Rattle.magnetar_check.specs.Check.{Checked}
 use Rattle.magnetar_c.specs.CStructs.{rowCheckAnswer}
 use borrow.Author.Needs.{needs}
 use Rattle.magnetar_c.proofs.runs.magnetar_row_check.Statement.{statement}
