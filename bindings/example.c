@@ -75,9 +75,11 @@ static void tables(void)
     show("2 * x^127:", (uint64_t[]){p.lo, p.hi}, 2);
 
     uint64_t point[] = {2, 0, 4, 0}, eq[8], z[] = {1, 0, 3, 0, 5, 0, 7, 0}, scratch[8];
-    say("eq of []:", magnetar_eq_build(point, 0, eq, 8), eq, 2);
-    say("eq of half an element:", magnetar_eq_build(point, 1, eq, 8), eq, 2);
-    say("eq of [2, 4]:", magnetar_eq_build(point, 4, eq, 8), eq, 8);
+    say("eq of []:", magnetar_eq_build(point, 0, small(1), eq, 8), eq, 2);
+    say("eq of half an element:", magnetar_eq_build(point, 1, small(1), eq, 8), eq, 2);
+    say("eq of [2, 4] from x^127:", magnetar_eq_build(point, 4, (magnetar_element){0, 1ull << 63}, eq, 8), eq, 8);
+    say("eq of [2, 4] from 0:", magnetar_eq_build(point, 4, small(0), eq, 8), eq, 8);
+    say("eq of [2, 4]:", magnetar_eq_build(point, 4, small(1), eq, 8), eq, 8);
 
     say_value("[1, 3, 5, 7] at [2, 4]:", magnetar_eval_mle(z, 8, point, 4, scratch, 8));
     say_value("[1, 3, 5] at [2, 4]:", magnetar_eval_mle(z, 6, point, 4, scratch, 8));
@@ -93,7 +95,7 @@ static void tables(void)
 static void rounds(void)
 {
     uint64_t point[] = {2, 0, 4, 0}, eq[8], z[] = {1, 0, 3, 0, 5, 0, 7, 0}, e[4], scratch[8], outer[8], m[6];
-    if (magnetar_eq_build(point, 4, eq, 8) != MAGNETAR_OK || magnetar_eq_build(point + 2, 2, e, 4) != MAGNETAR_OK)
+    if (magnetar_eq_build(point, 4, small(1), eq, 8) != MAGNETAR_OK || magnetar_eq_build(point + 2, 2, small(1), e, 4) != MAGNETAR_OK)
         return;
     say("outer message:", magnetar_outer_message(outer, 8, e, 4, z, 8, z, 8, eq, 8, 0, small(1), small(2)), outer, 8);
     say("of variable 2 of two:", magnetar_outer_message(outer, 8, e, 4, z, 8, z, 8, eq, 8, 2, small(1), small(2)), outer, 8);

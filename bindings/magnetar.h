@@ -147,9 +147,10 @@ typedef struct {
 /* The product. */
 magnetar_element magnetar_mul(magnetar_element a, magnetar_element b);
 
-/* The table of eq at the point: entry i is the product over j of p_j where bit j of i is 1, and of 1 + p_j where it is 0.
+/* The table of eq at the point, from a start: entry i is the start times the product over j of p_j where bit j of i is 1, and of 1 + p_j
+ * where it is 0. From 1 it is the table of eq itself, from 0 it is zeros.
  * 11: no point of at most 20 elements; 15: out is shorter than the table. */
-uint32_t magnetar_eq_build(const uint64_t *point, size_t point_len, uint64_t *out, size_t out_len);
+uint32_t magnetar_eq_build(const uint64_t *point, size_t point_len, magnetar_element start, uint64_t *out, size_t out_len);
 
 /* The value at the point of the multilinear polynomial with this table of values: the sum of each value times its entry of the eq table.
  * The scratch has as many words as the table, and is 0 after the call. 11: no point of at most 20 elements, or not a value for each

@@ -101,7 +101,7 @@ def rows():
     singly = ops("magnetar_vectors")
     parts = [sum(singly[name] for name in names.split()) for names in (FIELD, HASH, SUMCHECK, MATRIX)]
     assert sum(parts) == sum(singly.values()), singly
-    yield f"| `magnetar_vectors` | {thousands(sum(parts))}: field {parts[0]}, hash {parts[1]}, sum-checks {parts[2]}, matrices, folds and layouts {parts[3]} |"
+    yield f"| `magnetar_vectors` | {thousands(sum(parts))}: field {thousands(parts[0])}, hash {parts[1]}, sum-checks {parts[2]}, matrices, folds and layouts {parts[3]} |"
     cases, own, asked, alone, codes, verdicts = relations()
     yield f"| `magnetar_cases` | {thousands(sum(asked.values()))} on {thousands(cases)} relations: {of(asked, LINES)}; {own} relations with public columns of each login's own |"
     both = [name for name in LINES if name != "checks"]

@@ -3,7 +3,7 @@
 
     make.py DRIVER FIELDOPS SUMOPS COLUMNS
 
-DRIVER, FIELDOPS, SUMOPS and COLUMNS are commands that answer queries by the published Rust: DRIVER `mul`, `eq` and `evalmle` and
+DRIVER, FIELDOPS, SUMOPS and COLUMNS are commands that answer queries by the published Rust: DRIVER `mul`, `eq` from 1 and `evalmle` and
 those on parts, transcripts, matrices, folds and layouts, FIELDOPS the rest of the field, SUMOPS the sum-check, COLUMNS those on logins
 with public columns of their own. Hashes of bytes are Python's hashlib's.
 What the Rust does not answer (refusals, and the words of a lent slice that a call leaves alone) is put together here
@@ -19,6 +19,7 @@ TOP = Path(__file__).resolve().parent.parent
 MARK = "0x5a5a5a5a5a5a5a5a"
 ONES = 2**128 - 1
 EDGES = [0, 1, 1 << 63, 1 << 64, 1 << 127, ONES]
+SPECIAL = [0, 1, 2, 1 << 127]
 DICE = random.Random(20240219)
 
 
@@ -102,6 +103,13 @@ class Sheet(Lines):
         """The elements' words of the Rust's answer to a query that is not written down."""
         return self.commands[command].ask(query).split()[2:]
 
+    def from_one(self, point):
+        """The eq table of a point from 1, which is DRIVER's; FIELDOPS has to give the same."""
+        query = f"eq {point} {brief([1])}"
+        answer = self.commands["driver"].ask(f"eq {point}")
+        assert self.commands["fieldops"].ask(query) == answer, query
+        self.said(query, answer)
+
 
 def rows(sheet):
     sheet.note("document 01, rows 1 to 6")
@@ -112,8 +120,8 @@ def rows(sheet):
         (3, 7, 9),
     ]:
         sheet.said(f"mul {listed([a, b])}", f"= {listed([product])}")
-    sheet.said("eq 0", f"= {listed([1])}")
-    sheet.said(f"eq {listed([2, 4])}", f"= {listed([15, 10, 12, 8])}")
+    sheet.said(f"eq 0 {brief([1])}", f"= {listed([1])}")
+    sheet.said(f"eq {listed([2, 4])} {brief([1])}", f"= {listed([15, 10, 12, 8])}")
 
 
 def elements(sheet):
@@ -165,13 +173,14 @@ def tables(sheet):
     sheet.note("eq tables of 0 to 6 elements")
     for n in range(7):
         for point in [some(n), [DICE.getrandbits(1) for _ in range(n)], [DICE.choice(EDGES) for _ in range(n)]]:
-            sheet.rust("driver", f"eq {listed(point)}")
+            sheet.from_one(listed(point))
             sheet.rust("fieldops", f"fused {listed(point)}")
             bits = [str(DICE.getrandbits(1)) for _ in range(n)]
             sheet.rust("fieldops", f"eqat {listed(point)} {' '.join([str(n)] + bits)}")
     for x in EDGES + some(2):
         for b in (0, 1):
             sheet.rust("fieldops", f"eqchar2 {listed([x])} {b}")
+    starts(sheet)
     sheet.note("evaluations in 0 to 6 variables")
     for n in range(7):
         for point in [some(n), [DICE.getrandbits(1) for _ in range(n)], [DICE.choice(EDGES) for _ in range(n)]]:
@@ -182,6 +191,38 @@ def tables(sheet):
             table, r = listed(some(2**n)), listed(some(1))
             sheet.rust("fieldops", f"bind {var} {table} {r}")
             sheet.rust("fieldops", f"fold {var} {table} {r}")
+
+
+def starts(sheet):
+    """Eq tables from an element. What they draw is their own, so that the queries after them stay."""
+    dice = random.Random(20240221)
+
+    def others(n):
+        return [dice.getrandbits(128) for _ in range(n)]
+
+    sheet.note("eq tables of 0 to 6 elements from 0, 1, x, x^127, all ones and others: each entry times that")
+    for n in range(7):
+        special = dice.sample(SPECIAL, min(n, 4)) + [dice.choice(SPECIAL) for _ in range(n - 4)]
+        mixed = [dice.choice(SPECIAL + others(2)) for _ in range(n)]
+        for point in [others(n), special, mixed] + [[e] for e in SPECIAL if n == 1]:
+            sheet.from_one(listed(point))
+            for start in [0, 2, 1 << 127, ONES] + others(2):
+                sheet.rust("fieldops", f"eq {listed(point)} {brief([start])}")
+    sheet.note("eq from a start: exactly as many words, one less, which is refused with 15 and writes no word, and one more, which stays")
+    for n in range(4):
+        point, need = listed(others(n)), 2 << n
+        for start in [0, 2, 1 << 127, ONES] + others(1):
+            found = sheet.now("fieldops", f"eq {point} {brief([start])}")
+            for lent in [need - 1, need, need + 1]:
+                code, after = room(need, found, lent)
+                sheet.said(f"eqroom {lent} {point} {brief([start])}", " ".join(["=", code, str(len(after))] + after))
+    sheet.note("eq from a start: an odd number of words, or over 20 elements, is refused with 11, with room for a table and before 15")
+    for count, code in [(1, 11), (3, 11), (5, 11), (39, 11), (40, 15), (41, 11), (42, 11)]:
+        point = " ".join([str(count)] + words(others(21))[:count])
+        for start in [0, 1 << 127] + others(1):
+            for lent in [1, 16]:
+                sheet.said(f"eqroom {lent} {point} {brief([start])}", " ".join(["=", str(code), str(lent)] + [MARK] * lent))
+            sheet.said(f"eq {point} {brief([start])}", f"! {code}")
 
 
 def room(need, more, lent):
@@ -198,13 +239,13 @@ def edges(sheet):
         need = 2 << n
         for lent in [0, need - 1, need, need + 1, need + 5]:
             code, after = room(need, sheet.now("driver", f"eq {point}"), lent)
-            sheet.said(f"eqroom {lent} {point}", " ".join(["=", code, str(len(after))] + after))
+            sheet.said(f"eqroom {lent} {point} {brief([1])}", " ".join(["=", code, str(len(after))] + after))
     sheet.note("eq: a point of an odd number of words, or of over 20 elements, is refused with 11, and before 15")
     for count, code in [(1, 11), (3, 11), (39, 11), (40, 15), (41, 11), (42, 11)]:
         point = " ".join([str(count)] + words(some(21))[:count])
         for lent in [0, 2]:
-            sheet.said(f"eqroom {lent} {point}", " ".join(["=", str(code), str(lent)] + [MARK] * lent))
-        sheet.said(f"eq {point}", f"! {code}")
+            sheet.said(f"eqroom {lent} {point} {brief([1])}", " ".join(["=", str(code), str(lent)] + [MARK] * lent))
+        sheet.said(f"eq {point} {brief([1])}", f"! {code}")
         sheet.said(f"fused {point}", f"! {code}")
     sheet.note("eq at bits: another number of bits than of elements, or half an element, is refused with 11")
     sheet.said(f"eqat {listed(some(2))} 1 1", "! 11")

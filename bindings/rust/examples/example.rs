@@ -53,9 +53,11 @@ fn tables() {
     say_element("2 * x^127:", Ok(mul(small(2), Element { lo: 0, hi: 1 << 63 })));
 
     let point = smalls(&[2, 4]);
-    say_words("eq of []:", eq_build(&[]));
-    say_words("eq of half an element:", eq_build(&point[..1]));
-    say_words("eq of [2, 4]:", eq_build(&point));
+    say_words("eq of []:", eq_build(&[], small(1)));
+    say_words("eq of half an element:", eq_build(&point[..1], small(1)));
+    say_words("eq of [2, 4] from x^127:", eq_build(&point, Element { lo: 0, hi: 1 << 63 }));
+    say_words("eq of [2, 4] from 0:", eq_build(&point, small(0)));
+    say_words("eq of [2, 4]:", eq_build(&point, small(1)));
 
     let mut z = smalls(&[1, 3, 5, 7]);
     say_element("[1, 3, 5, 7] at [2, 4]:", eval_mle(&z, &point));
@@ -66,7 +68,7 @@ fn tables() {
     let bound = bind_var(&mut z, 1, small(2));
     say_words("variable 1 of [1, 3, 5, 7] bound to 2:", bound.map(|()| z));
     say_words("variable 0 of three elements:", bind_var(&mut smalls(&[1, 3, 5]), 0, small(2)).map(|()| vec![]));
-    let mut eq = eq_build(&point).unwrap();
+    let mut eq = eq_build(&point, small(1)).unwrap();
     let dropped = drop_var(&mut eq, 0);
     say_words("eq of [2, 4] without variable 0:", dropped.map(|()| eq.clone()));
     say_words("without variable 1 of one:", drop_var(&mut eq, 1).map(|()| vec![]));
@@ -74,7 +76,7 @@ fn tables() {
 
 fn rounds() {
     let (point, z) = (smalls(&[2, 4]), smalls(&[1, 3, 5, 7]));
-    let (eq, e) = (eq_build(&point).unwrap(), eq_build(&point[2..]).unwrap());
+    let (eq, e) = (eq_build(&point, small(1)).unwrap(), eq_build(&point[2..], small(1)).unwrap());
     say_words("outer message:", outer_message(&e, &z, &z, &eq, 0, small(1), small(2)).map(|m| m.to_vec()));
     say_words("of variable 2 of two:", outer_message(&e, &z, &z, &eq, 2, small(1), small(2)).map(|m| m.to_vec()));
     let m = inner_message(&eq, &z, 0).unwrap();

@@ -53,7 +53,7 @@ pub struct Relation {
 
 /// The words of elements: the shared challenges, those of the columns, and a value for each segment. The value of segment i is the sum over
 /// the logins u and the positions k below its length of eq(r_inst, u) eq(r_local, k) b, where b is the bit of login u at column offset + k:
-/// eq(p, i) is entry i of [`crate::eq_build`] of p, r_local the first log2(length) elements of r_low, the offset that of [`layout_build`].
+/// eq(p, i) is entry i of [`crate::eq_build`] of p from 1, r_local the first log2(length) elements of r_low, the offset that of [`layout_build`].
 #[derive(Clone, Debug, PartialEq, Eq)]
 pub struct Claims {
     pub r_inst: Vec<u64>,

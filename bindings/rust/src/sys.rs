@@ -122,7 +122,7 @@ pub struct Shapes {
 #[link(name = "magnetar_c", kind = "static")]
 extern "C" {
     pub fn magnetar_mul(a: Element, b: Element) -> Element;
-    pub fn magnetar_eq_build(point: *const u64, point_len: usize, out: *mut u64, out_len: usize) -> u32;
+    pub fn magnetar_eq_build(point: *const u64, point_len: usize, start: Element, out: *mut u64, out_len: usize) -> u32;
     pub fn magnetar_eval_mle(
         values: *const u64, values_len: usize,
         point: *const u64, point_len: usize,

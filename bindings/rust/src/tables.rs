@@ -13,11 +13,12 @@ pub fn words(elements: &[Element]) -> Vec<u64> {
     elements.iter().flat_map(|e| [e.lo, e.hi]).collect()
 }
 
-/// The table of eq at the point: entry i is the product over j of p_j where bit j of i is 1, and of 1 + p_j where it is 0.
-pub fn eq_build(point: &[u64]) -> Result<Vec<u64>, Refusal> {
+/// The table of eq at the point, from a start: entry i is the start times the product over j of p_j where bit j of i is 1, and of 1 + p_j
+/// where it is 0. From 1 it is the table of eq itself, from 0 it is zeros.
+pub fn eq_build(point: &[u64], start: Element) -> Result<Vec<u64>, Refusal> {
     let mut out = room(2usize.checked_shl(point.len().min(64) as u32 / 2));
     // SAFETY: here and below each pointer and length are of one slice, and what is written is borrowed as `&mut`.
-    Refusal::check(unsafe { sys::magnetar_eq_build(point.as_ptr(), point.len(), out.as_mut_ptr(), out.len()) })?;
+    Refusal::check(unsafe { sys::magnetar_eq_build(point.as_ptr(), point.len(), start, out.as_mut_ptr(), out.len()) })?;
     Ok(out)
 }
 

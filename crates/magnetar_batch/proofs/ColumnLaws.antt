@@ -3,20 +3,19 @@
 use mathlib.Core.Path.{_≡_, refl, sym, ap, _∙_}
 use mathlib.Core.Bool.{Bool, true, false, cond}
 use mathlib.Core.List.{List, [], _∷_}
-use Prim.Native.Nat.{ℕ, _+_, _/_, _^_, _≤_, _<_}
+use Prim.Native.Nat.{ℕ, _+_, _/_, _<_}
 use native.Mathlib.Omega.{arith}
-use lib.Dec.{eqb, ltb}
-use borrow.Author.Tests.{ltb-true, ltb-false}
-use lib.ListN.{length, getD, replicate, length-replicate, getD-replicate, List·getD-eq-default}
+use lib.Dec.{eqb}
+use lib.ListN.{length, getD, replicate, length-replicate, getD-replicate}
 use Rattle.magnetar_field.specs.Gf128.{_⊕_, _⊗_}
 use Rattle.magnetar_field.specs.Words.{elements}
-use Rattle.magnetar_multilinear.specs.EqTable.{eqTable, scaledTable}
+use Rattle.magnetar_multilinear.specs.EqTable.{eqTable, eqTableFrom}
 use Rattle.magnetar_multilinear.specs.Multilinear.{dot}
 use Rattle.magnetar_field.proofs.Elements.{elements-length}
 use Rattle.magnetar_field.proofs.Xor.{xor}
 use Rattle.magnetar_field.proofs.Product.{⊗-left-comm, ⊗-⊕, ⊗-zero}
 use Rattle.magnetar_field.proofs.Tabulation.{tabulate-get, tabulate-of}
-use Rattle.magnetar_multilinear.proofs.EqTables.{eqTable-length, eqTable-get, scaled-length, scaled-get}
+use Rattle.magnetar_multilinear.proofs.EqTables.{from-get}
 use Rattle.magnetar_layout.specs.Tests.{Sized}
 use Rattle.magnetar_matrix.specs.Matrix.{Entry, Matrix, System, sumOver, rowTotal, share, timesAt, times, transpose, mleTable}
 use Rattle.magnetar_matrix.specs.Table.{raised}
@@ -24,39 +23,28 @@ use Rattle.magnetar_matrix.proofs.TableLaws.{raised-length, raised-get}
 use Rattle.magnetar_matrix.specs.Combined.{combinedTable}
 use Rattle.magnetar_batch.proofs.TableWalk.{columnOf, threeRaised}
 
--- ---- the factor in front
-scaled-all : (c : ℕ) (p : List ℕ) (k : ℕ) → getD (scaledTable c p) k 0 ≡ c ⊗ getD (eqTable p) k 0
-scaled-all c p k = go (ltb k (2 ^ length p)) refl
-  where
-    go : (b : Bool) → ltb k (2 ^ length p) ≡ b → getD (scaledTable c p) k 0 ≡ c ⊗ getD (eqTable p) k 0
-    go true h =
-        let l : k < 2 ^ length p = ltb-true k (2 ^ length p) h in
-        rw (scaled-get c p k l, eqTable-get p k l)
-    go false h =
-        let l : 2 ^ length p ≤ k = ltb-false k (2 ^ length p) h in
-        rw (List·getD-eq-default (scaledTable c p) 0 {n = k} (rw scaled-length l), List·getD-eq-default (eqTable p) 0 {n = k} (rw eqTable-length l)) (sym (⊗-zero c))
-
-share-scaled : (c : ℕ) (p : List ℕ) (e : Entry) → share (scaledTable c p) e ≡ c ⊗ share (eqTable p) e
+-- ---- the start in front
+share-from : (c : ℕ) (p : List ℕ) (e : Entry) → share (eqTableFrom c p) e ≡ c ⊗ share (eqTable p) e
 unfolding share
-share-scaled c p e = rw (scaled-all c p (e .col)) (⊗-left-comm (e .value) c (getD (eqTable p) (e .col) 0))
+share-from c p e = rw (from-get c p (e .col)) (⊗-left-comm (e .value) c (getD (eqTable p) (e .col) 0))
 
 cond-⊗ : (b : Bool) (c a : ℕ) → cond b (c ⊗ a) 0 ≡ c ⊗ cond b a 0
 cond-⊗ true c a = refl
 cond-⊗ false c a = sym (⊗-zero c)
 
-one-scaled : (b : Bool) (c a t rest : ℕ) → a ≡ c ⊗ t → cond b a 0 ⊕ c ⊗ rest ≡ c ⊗ (cond b t 0 ⊕ rest)
-one-scaled b c a t rest e = rw (e, cond-⊗ b c t) (sym (⊗-⊕ c (cond b t 0) rest))
+one-from : (b : Bool) (c a t rest : ℕ) → a ≡ c ⊗ t → cond b a 0 ⊕ c ⊗ rest ≡ c ⊗ (cond b t 0 ⊕ rest)
+one-from b c a t rest e = rw (e, cond-⊗ b c t) (sym (⊗-⊕ c (cond b t 0) rest))
 
-total-scaled : (c : ℕ) (p : List ℕ) (es : List Entry) (y : ℕ) → rowTotal (share (scaledTable c p)) es y ≡ c ⊗ rowTotal (share (eqTable p)) es y
+total-from : (c : ℕ) (p : List ℕ) (es : List Entry) (y : ℕ) → rowTotal (share (eqTableFrom c p)) es y ≡ c ⊗ rowTotal (share (eqTable p)) es y
 unfolding rowTotal sumOver
-total-scaled c p [] y = sym (⊗-zero c)
-total-scaled c p (e ∷ es) y =
-    rw (total-scaled c p es y) (one-scaled (eqb (e .row) y) c (share (scaledTable c p) e) (share (eqTable p) e) (rowTotal (share (eqTable p)) es y) (share-scaled c p e))
+total-from c p [] y = sym (⊗-zero c)
+total-from c p (e ∷ es) y =
+    rw (total-from c p es y) (one-from (eqb (e .row) y) c (share (eqTableFrom c p) e) (share (eqTable p) e) (rowTotal (share (eqTable p)) es y) (share-from c p e))
 
 column-is : (c m : ℕ) (p : List ℕ) (a : Matrix) (y : ℕ) → a .cols ≡ m → y < m → columnOf c p (a .entries) y ≡ c ⊗ getD (mleTable a (elements p)) y 0
 unfolding mleTable times timesAt transpose
 column-is c m p a y e h =
-    total-scaled c (elements p) (transpose a .entries) y
+    total-from c (elements p) (transpose a .entries) y
     ∙ rw (tabulate-get (timesAt (transpose a) (eqTable (elements p))) (a .cols) y 0 (rw e h))
 
 -- ---- three of them

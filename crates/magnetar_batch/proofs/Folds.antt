@@ -12,11 +12,11 @@ use lib.ListN.{length, getD, take, drop, replicate, length-take, length-replicat
 use lib.Seq.{getD-drop}
 use Rattle.magnetar_field.specs.Gf128.{_⊕_, _⊗_}
 use Rattle.magnetar_field.specs.Tabulate.{tabulate}
-use Rattle.magnetar_multilinear.specs.EqTable.{eqAt, eqTable, scaledTable}
+use Rattle.magnetar_multilinear.specs.EqTable.{eqAt, eqTable}
 use Rattle.magnetar_field.specs.Words.{elements, words}
 use Rattle.magnetar_field.proofs.Xor.{⊕-zero}
 use Rattle.magnetar_field.proofs.Tabulation.{tabulate-ext}
-use Rattle.magnetar_multilinear.proofs.EqTables.{eqTable-get, eqAt-lt, scaled-one}
+use Rattle.magnetar_multilinear.proofs.EqTables.{eqTable-get, eqAt-lt}
 use Rattle.magnetar_matrix.specs.Sum.{sumBelow}
 use Rattle.magnetar_matrix.specs.Batch.{bitOf, foldedAt, folded}
 use Rattle.magnetar_matrix.specs.Packed.{packedBit, loginPart, unpacked}
@@ -79,17 +79,17 @@ factor-kept w ws u q t₀ t e = go (ltb (w + q) (length t₀)) refl ∙ sym (get
 
 -- what g adds, for the elements behind the first w
 pub one-slice : (g : List ℕ → ℕ → ℕ) (w q k : ℕ) (p s₁ s₂ s₃ : List ℕ) → s₁ ≡ replicate (2 * w + 2 * q) 0 → k ≡ 2 * w + 2 * q
-    → s₂ ≡ take (2 * w) s₁ ++ (words (scaledTable 1 p) ++ drop k s₁)
+    → s₂ ≡ take (2 * w) s₁ ++ (words (eqTable p) ++ drop k s₁)
     → elements s₃ ≡ raised (g (drop w (elements s₂))) (elements s₂)
     → take w (elements s₃) ≡ tabulate (g (eqTable p)) w
 one-slice g w q k p s₁ s₂ s₃ a b c d =
     let l : length s₁ ≡ 2 * w + 2 * q = rw a (length-replicate (2 * w + 2 * q) 0) in
     let fits : 2 * w ≤ length s₁ = omega arith in
     let z : drop k s₁ ≡ [] = drop-of-length-le s₁ {i = k} (omega arith) in
-    let t : scaledTable 1 p ++ elements (drop k s₁) ≡ eqTable p = rw z (nothing (scaledTable 1 p)) ∙ scaled-one p in
+    let t : eqTable p ++ elements (drop k s₁) ≡ eqTable p = rw z (nothing (eqTable p)) in
     let h : take w (elements s₁) ≡ replicate w 0 = rw a (zeros-front w (2 * w + 2 * q) (omega arith)) in
-    let e : drop w (elements s₂) ≡ eqTable p = rw c (behind-is w s₁ fits (scaledTable 1 p) (drop k s₁) ∙ t) in
-    let f : take w (elements s₂) ≡ replicate w 0 = rw c (front-kept w s₁ fits (words (scaledTable 1 p) ++ drop k s₁) ∙ h) in
+    let e : drop w (elements s₂) ≡ eqTable p = rw c (behind-is w s₁ fits (eqTable p) (drop k s₁) ∙ t) in
+    let f : take w (elements s₂) ≡ replicate w 0 = rw c (front-kept w s₁ fits (words (eqTable p) ++ drop k s₁) ∙ h) in
     ap (take w) d ∙ take-raised (g (drop w (elements s₂))) w (elements s₂) (long f) ∙ rw (e, f) (raised-zeros (g (eqTable p)) w)
   where
     nothing : (l : List ℕ) → l ++ elements [] ≡ l

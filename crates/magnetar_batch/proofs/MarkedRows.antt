@@ -5,7 +5,7 @@ use Rattle.magnetar_field.specs.Gf128.{_⊕_, _⊗_, timesX, sumTimes}
 use Rattle.magnetar_field.specs.Sizes.{log₂, halvings}
 use Rattle.magnetar_field.specs.Tabulate.{tabulate}
 use Rattle.magnetar_field.specs.Words.{elements, words}
-use Rattle.magnetar_multilinear.specs.EqTable.{eqTable, eqAt, eqFactor}
+use Rattle.magnetar_multilinear.specs.EqTable.{eqTable, eqTableFrom, eqAt, eqFactor}
 use Rattle.magnetar_multilinear.specs.Entries.{eqRefusal}
 use Rattle.magnetar_layout.specs.Every.{every}
 use Rattle.magnetar_layout.specs.Login.{loginWords}
@@ -22,7 +22,7 @@ use Rattle.magnetar_batch.specs.Entries.{foldRefusal}
 use Rattle.magnetar_batch.specs.MarkedRows.{table, MarkedRows}
 
 pub marked : MarkedRows
-unfolding table _⊕_ _⊗_ timesX sumTimes log₂ halvings tabulate elements words eqTable eqAt eqFactor eqRefusal every loginWords nextMultiple
+unfolding table _⊕_ _⊗_ timesX sumTimes log₂ halvings tabulate elements words eqTable eqTableFrom eqAt eqFactor eqRefusal every loginWords nextMultiple
     offsetsFrom endFrom offsets layoutEnd isLength orRefuse isSize buildRefusal sumBelow blocks sumOver rowTotal share timesAt times transpose
     mleTable bitValued entriesOf matrixOf assignment bitOf foldedAt folded packedBit loginPart publicPart unpacked publicOf packedTable packedRefusal tableRefusal
     foldRefusal batchProducts

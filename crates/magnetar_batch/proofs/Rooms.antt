@@ -11,9 +11,10 @@ use lib.Pow.{split}
 use borrow.Rule.Slice.PartMut.{putMid}
 use Rattle.magnetar_field.specs.Tabulate.{tabulate}
 use Rattle.magnetar_field.specs.Words.{elements, words}
-use Rattle.magnetar_multilinear.specs.EqTable.{scaledTable}
-use Rattle.magnetar_multilinear.specs.Entries.{eqRefusal, scaledOut, tableWords}
+use Rattle.magnetar_multilinear.specs.EqTable.{eqTable}
+use Rattle.magnetar_multilinear.specs.Entries.{eqRefusal, eqOut, tableWords}
 use Rattle.magnetar_field.proofs.Elements.{elements-drop, words-elements}
+use Rattle.magnetar_multilinear.proofs.EqTables.{from-one}
 use Rattle.magnetar_multilinear.proofs.Refusals.{eq-none}
 use Rattle.magnetar_matrix.specs.Table.{raised}
 use Rattle.magnetar_matrix.proofs.TableLaws.{elements-zero, raised-length, raised-get, raised-is}
@@ -27,13 +28,13 @@ back-put s u k =
     let e : drop (length s - k) (drop k s) ≡ [] = drop-of-length-le (drop k s) {i = length s - k} (rw length-drop (omega arith)) in
     rw (e, append-nil)
 
-pub table-behind : (p s u : List ℕ) (k c : ℕ) → length p % 2 ≡ 0 → length p ≤ 40 → k + tableWords p ≤ length s
-    → u ≡ scaledOut p c (take (length s - k) (drop k s))
-    → putMid k (length s - k) s u ≡ take k s ++ (words (scaledTable c (elements p)) ++ drop (k + tableWords p) s)
-table-behind p s u k c even short room e =
+pub table-behind : (p s u : List ℕ) (k : ℕ) → length p % 2 ≡ 0 → length p ≤ 40 → k + tableWords p ≤ length s
+    → u ≡ eqOut p 1 (take (length s - k) (drop k s))
+    → putMid k (length s - k) s u ≡ take k s ++ (words (eqTable (elements p)) ++ drop (k + tableWords p) s)
+table-behind p s u k even short room e =
     let b : tableWords p ≤ length (drop k s) = rw length-drop (omega arith) in
     let n : eqRefusal p (drop k s) ≡ 0 = eq-none p (drop k s) even short b in
-    back-put s u k ∙ rw (e, back-part s k, n, drop-drop)
+    back-put s u k ∙ rw (e, back-part s k, n, from-one, drop-drop)
 
 -- ---- elements
 two-suc : (i : ℕ) → 2 * suc i ≡ suc (suc (2 * i))

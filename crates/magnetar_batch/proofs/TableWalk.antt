@@ -11,11 +11,11 @@ use borrow.Rule.Slice.PartMut.{putMid}
 use Rattle.magnetar_field.specs.Gf128.{_⊗_}
 use Rattle.magnetar_field.specs.Sizes.{log₂}
 use Rattle.magnetar_field.specs.Words.{elements, words, overlaid}
-use Rattle.magnetar_field.proofs.Elements.{elements-length}
-use Rattle.magnetar_multilinear.specs.EqTable.{scaledTable}
-use Rattle.magnetar_multilinear.specs.Entries.{eqRefusal, scaledOut, tableWords}
+use Rattle.magnetar_field.proofs.Elements.{elements-length, words-length}
+use Rattle.magnetar_multilinear.specs.EqTable.{eqTableFrom}
+use Rattle.magnetar_multilinear.specs.Entries.{eqRefusal, eqOut, tableWords}
 use Rattle.magnetar_multilinear.proofs.Refusals.{eq-none}
-use Rattle.magnetar_multilinear.proofs.EqTables.{scaled-length}
+use Rattle.magnetar_multilinear.proofs.EqTables.{from-length}
 use Rattle.magnetar_matrix.specs.Matrix.{Entry, System, rowTotal, share, swapped}
 use Rattle.magnetar_matrix.specs.Batch.{Relation}
 use Rattle.magnetar_matrix.specs.Table.{addedAt, raised}
@@ -23,30 +23,26 @@ use Rattle.magnetar_matrix.proofs.TableLaws.{added-length, raised-length}
 use Rattle.magnetar_relation.specs.declared.shapes.SystemShape.{SystemShape}
 use Rattle.magnetar_relation.specs.declared.shapes.Shapes.{Shapes}
 use Rattle.magnetar_relation.specs.Rules.{matrixAt, entriesIn, systemAt}
-use Rattle.magnetar_relation.specs.Steps.{between, clearedTo, columnAdded}
+use Rattle.magnetar_relation.specs.Steps.{between, behind, clearedTo, columnAdded}
 use Rattle.magnetar_relation.specs.EntryWalks.{foldEntries}
-use Rattle.magnetar_relation.proofs.TableWords.{one-added, raised-none, raised-more, words-length, front-read, zeros-cleared, cleared-words}
-use Rattle.magnetar_relation.proofs.StepLaws.{rest-is, behind-is, cleared-none}
+use Rattle.magnetar_relation.proofs.TableWords.{one-added, raised-none, raised-more, front-read, zeros-cleared, cleared-words}
+use Rattle.magnetar_relation.proofs.StepLaws.{cleared-none, behind-some, behind-none}
 use Rattle.magnetar_relation.proofs.RangeLaws.{same-drop, system-cut}
 use Rattle.magnetar_batch.specs.TableSteps.{eqBehind, clearedBehind, pointIn, matrixAdded, systemAdded, tableMade}
 
 -- ---- the steps' parts of the words
-pub eq-behind-some : (m c : ℕ) (p s t : List ℕ) → 2 * m ≤ length s → t ≡ scaledOut p c (take (length s - 2 * m) (drop (2 * m) s))
-    → putMid (2 * m) (length s - 2 * m) s t ≡ eqBehind m c p s
-unfolding eqBehind
-eq-behind-some m c p s t h e = behind-is (2 * m) s t ∙ rw (le-leb (2 * m) (length s) h, e, rest-is (2 * m) s)
-
--- with a point and a factor that a step reads
+-- with a point and a start that a step reads
 pub eq-behind-read : (m n l j v k : ℕ) (al p s t : List ℕ) → 2 * m ≤ length s → l ≡ min (2 * j) 32 → j ≡ log₂ n → v ≡ getD (elements al) k 0
-    → t ≡ scaledOut (take (l - 0) p) v (take (length s - 2 * m) (drop (2 * m) s))
+    → t ≡ eqOut (take (l - 0) p) v (take (length s - 2 * m) (drop (2 * m) s))
     → putMid (2 * m) (length s - 2 * m) s t ≡ eqBehind m (getD (elements al) k 0) (pointIn n p) s
+unfolding eqBehind
 eq-behind-read m n l j v k al p s t h hl hj hv e =
     let d : l - 0 ≡ min (2 * log₂ n) 32 = omega (arith, ap (λ (i : ℕ). 2 * i) hj) in
-    eq-behind-some m (getD (elements al) k 0) (pointIn n p) s t h (e ∙ rw (d, hv))
+    behind-some m (eqOut (pointIn n p) (getD (elements al) k 0)) s t h (e ∙ rw (d, hv))
 
 pub eq-behind-none : (m c : ℕ) (p s : List ℕ) → length s < 2 * m → s ≡ eqBehind m c p s
 unfolding eqBehind
-eq-behind-none m c p s h = rw (lt-leb (2 * m) (length s) h)
+eq-behind-none m c p s h = behind-none m (eqOut p c) s h
 
 -- the first m elements, copied and cleared
 pub moved : (m : ℕ) (s t o out : List ℕ) → 2 * m ≤ length s → o ≡ overlaid (take (2 * m - 0) s) out → t ≡ replicate (length (take (2 * m - 0) s)) 0
@@ -60,18 +56,18 @@ moved m s t o out h e f =
 pub moved-none : (m : ℕ) (s o out : List ℕ) → length s < 2 * m → o ≡ overlaid s out → (o ≡ overlaid (take (2 * m) s) out) × (s ≡ clearedTo m s)
 moved-none m s o out h e = (e ∙ ap (λ (u : List ℕ). overlaid u out) (sym (take-all (2 * m) s (omega arith))), cleared-none m s h)
 
-pub behind-some : (m k j : ℕ) (s t : List ℕ) → k ≡ j → 2 * m + 2 * k ≤ length s
+pub cleared-behind-some : (m k j : ℕ) (s t : List ℕ) → k ≡ j → 2 * m + 2 * k ≤ length s
     → t ≡ replicate (length (take (2 * m + 2 * k - 2 * m) (drop (2 * m) s))) 0
     → putMid (2 * m) (2 * m + 2 * k - 2 * m) s t ≡ clearedBehind m j s
 unfolding clearedBehind
-behind-some m k j s t q h e =
+cleared-behind-some m k j s t q h e =
     let d : 2 * m + 2 * k - 2 * m ≡ 2 * k = omega arith in
     let l : length (take (2 * k) (drop (2 * m) s)) ≡ 2 * k = length-take-le (2 * k) (drop (2 * m) s) (rw length-drop (omega arith)) in
     rw (← q, le-leb (2 * m + 2 * k) (length s) h, e, d, l, drop-drop (2 * k) (2 * m) s)
 
-pub behind-none : (m k j : ℕ) (s : List ℕ) → k ≡ j → length s < 2 * m + 2 * k → s ≡ clearedBehind m j s
+pub cleared-behind-none : (m k j : ℕ) (s : List ℕ) → k ≡ j → length s < 2 * m + 2 * k → s ≡ clearedBehind m j s
 unfolding clearedBehind
-behind-none m k j s q h = rw (← q, lt-leb (2 * m + 2 * k) (length s) h)
+cleared-behind-none m k j s q h = rw (← q, lt-leb (2 * m + 2 * k) (length s) h)
 
 -- ---- a table in front of words
 -- s is the table t of m elements, k words behind it, and the words r
@@ -124,15 +120,15 @@ pub record Row (n : ℕ) (p : List ℕ) : Type 0 where
 
 -- what it adds to the columns
 abbrev pub columnOf : ℕ → List ℕ → List Entry → ℕ → ℕ
-columnOf c p es = rowTotal (share (scaledTable c (elements p))) (map swapped es)
+columnOf c p es = rowTotal (share (eqTableFrom c (elements p))) (map swapped es)
 
 module _ (m n c : ℕ) (p : List ℕ) (w : Row n p) where
-  factors-length : length (scaledTable c (elements p)) ≡ n
-  factors-length = scaled-length c (elements p) ∙ (ap (λ (i : ℕ). 2 ^ i) (elements-length p) ∙ sym (w .power))
+  factors-length : length (eqTableFrom c (elements p)) ≡ n
+  factors-length = from-length c (elements p) ∙ (ap (λ (i : ℕ). 2 ^ i) (elements-length p) ∙ sym (w .power))
 
   eq-behind-are : (t b r : List ℕ) → length t ≡ m → 2 * n ≤ length b
-      → eqBehind m c p (words t ++ (b ++ r)) ≡ words t ++ (words (scaledTable c (elements p)) ++ (drop (2 * n) b ++ r))
-  unfolding eqBehind
+      → eqBehind m c p (words t ++ (b ++ r)) ≡ words t ++ (words (eqTableFrom c (elements p)) ++ (drop (2 * n) b ++ r))
+  unfolding eqBehind behind
   eq-behind-are t b r l h =
       let d : length (words t) ≡ 2 * m = doubled m t l in
       let k : 2 * m ≤ length (words t ++ (b ++ r)) = rw length-append (omega (arith, d)) in
@@ -151,7 +147,7 @@ module _ (m n c : ℕ) (p : List ℕ) (w : Row n p) where
   matrix-held : (k : ℕ) (t r s : List ℕ) (es : List Entry) → 2 * n ≤ k → Held m k t r s
       → Held m k (raised (columnOf c p es) t) r (foldEntries (columnAdded m n) es (eqBehind m c p s))
   matrix-held k t r s es h g =
-      let f = scaledTable c (elements p) in
+      let f = eqTableFrom c (elements p) in
       let d = drop (2 * n) (g .behind) in
       let e = eq-behind-are t (g .behind) r (g .wide) (omega (arith, h, g .long)) in
       record {

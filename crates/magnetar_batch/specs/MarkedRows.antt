@@ -45,9 +45,9 @@ matrix = lent 2 4 (0 ∷ 0 ∷ 1 ∷ 1 ∷ 1 ∷ []) (0 ∷ 2 ∷ 1 ∷ 3 ∷ 1 
 abbrev pub product : (a b : ℕ) → Result
 product a b = element (a ⊗ b)
 
--- rows 5 and 6: `EqBits::build` of the point p
+-- rows 5 and 6: `EqBits::build` of the point p, from 1
 abbrev pub eqBuilt : (p out : List ℕ) → Result
-eqBuilt p out = written (eqRefusal p out) (eqOut p out)
+eqBuilt p out = written (eqRefusal p out) (eqOut p 1 out)
 
 -- row 7: `apply_simd_packed` for the packed words ws of q logins with w columns and the public words x
 abbrev pub applied : (ws x : List ℕ) → (q w : ℕ) → (out : List ℕ) → Result

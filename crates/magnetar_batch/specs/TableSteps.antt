@@ -9,15 +9,15 @@ use lib.Dec.{leb}
 use lib.ListN.{length, getD, take, drop, replicate}
 use Rattle.magnetar_field.specs.Sizes.{log₂}
 use Rattle.magnetar_field.specs.Words.{elements, overlaid}
-use Rattle.magnetar_multilinear.specs.Entries.{scaledOut}
+use Rattle.magnetar_multilinear.specs.Entries.{eqOut}
 use Rattle.magnetar_matrix.specs.Matrix.{Matrix, System}
 use Rattle.magnetar_matrix.specs.Batch.{Relation}
-use Rattle.magnetar_relation.specs.Steps.{clearedTo, columnAdded}
+use Rattle.magnetar_relation.specs.Steps.{behind, clearedTo, columnAdded}
 use Rattle.magnetar_relation.specs.EntryWalks.{foldEntries}
 
--- c times the eq table of the point p behind the first m elements; nothing where they are fewer
+-- the eq table of the point p, from c, behind the first m elements; nothing where they are fewer
 unfoldable pub eqBehind : ℕ → ℕ → List ℕ → List ℕ → List ℕ
-eqBehind m c p s = cond (leb (2 * m) (length s)) (take (2 * m) s ++ scaledOut p c (drop (2 * m) s)) s
+eqBehind m c p s = behind m (eqOut p c) s
 
 -- 0 in the k elements behind the first m; nothing where they are fewer
 unfoldable pub clearedBehind : ℕ → ℕ → List ℕ → List ℕ

@@ -100,7 +100,7 @@ fn fold_in(packed: &[u64], q: usize, w: usize, point: &[u64], out: &mut [u64], s
     ensures { λ _. ⌜ now (out .exit) ≡ words (tabulate (foldSum w (now (packed .entry)) (eqTable (elements (now (point .entry)))) q) (length (now (out .entry)) / 2)) ⌝ }
     ensures { λ _. ⌜ now (s .exit) ≡ replicate (length (now (s .entry))) 0 ⌝ }
 {
-    let _done = EqBits::build(point, s);
+    let _done = EqBits::build(point, ONE, s);
     words::clear(out);
     add_logins(packed, q, w, s, out);
     words::clear(s);
@@ -164,7 +164,7 @@ fn fold_one(packed: &[u64], q: usize, w: usize, point: &[u64], s: &mut [u64])
 {
     let k = 2 * w;
     words::clear(s);
-    room::eq_behind(s, k, point, ONE);
+    room::eq_behind(s, k, point);
     add_logins_in(packed, q, w, s);
     room::clear_behind(s, k);
 }
@@ -257,7 +257,7 @@ fn fold_halves(x: &[u64], q: usize, w: usize, point: &[u64], s: &mut [u64])
 {
     let k = 2 * w;
     words::clear(s);
-    room::eq_behind(s, k, point, ONE);
+    room::eq_behind(s, k, point);
     add_halves(x, q, w, s);
     room::clear_behind(s, k);
 }

@@ -5,7 +5,7 @@ use magnetar_field::sizes;
 use magnetar_field::words;
 use magnetar_layout::tests;
 use magnetar_matrix::step as element;
-use magnetar_multilinear::eq;
+use magnetar_multilinear::eq::EqBits;
 use magnetar_relation::step;
 ghost use mathlib.Core.Path.{_≡_};
 ghost use Prim.Native.Nat.{_+_, _*_, max};
@@ -18,7 +18,7 @@ ghost use Rattle.magnetar_relation.specs.Steps.{clearedTo, columnAdded};
 ghost use Rattle.magnetar_batch.specs.Entries.{comboTestsBy};
 ghost use Rattle.magnetar_batch.specs.TableSteps.{eqBehind, clearedBehind, padded, pointIn};
 
-// Puts alpha k times the eq table of the row point p, for n rows, behind the first m elements.
+// Puts the eq table of the row point p, for n rows, behind the first m elements, from alpha k: no later step multiplies by it.
 pub(crate) fn eq_behind(s: &mut [u64], m: usize, n: usize, al: [u64; 12], k: usize, p: [u64; 32])
     ensures { λ _. ⌜ now (s .exit) ≡ eqBehind m (getD (elements al) k 0) (pointIn n p) (now (s .entry)) ⌝ }
 {
@@ -26,7 +26,7 @@ pub(crate) fn eq_behind(s: &mut [u64], m: usize, n: usize, al: [u64; 12], k: usi
     let l = sizes::least(2 * sizes::log2(n), 32);
     if m <= s.len() / 2 {
         let a = 2 * m;
-        let _done = eq::eq_build_scaled(&p[0..l], c, &mut s[a..]);
+        let _done = EqBits::build(&p[0..l], c, &mut s[a..]);
     }
 }
 

@@ -24,13 +24,13 @@ pub extern "C" fn magnetar_mul(a: MagnetarElement, b: MagnetarElement) -> Magnet
     across::element_out(gf128::mul(across::element_in(a), across::element_in(b)))
 }
 
-// The table of eq at the point.
+// The table of eq at the point, from start.
 #[no_mangle]
-pub extern "C" fn magnetar_eq_build(point: &[u64], out: &mut [u64]) -> u32
+pub extern "C" fn magnetar_eq_build(point: &[u64], start: MagnetarElement, out: &mut [u64]) -> u32
     ensures refusal { λ r. ⌜ r ≡ eqRefusal (now (point .entry)) (now (out .entry)) ⌝ }
-    ensures table { λ _. ⌜ now (out .exit) ≡ eqOut (now (point .entry)) (now (out .entry)) ⌝ }
+    ensures table { λ _. ⌜ now (out .exit) ≡ eqOut (now (point .entry)) (value (across.element start)) (now (out .entry)) ⌝ }
 {
-    EqBits::build(point, out)
+    EqBits::build(point, across::element_in(start), out)
 }
 
 // Variable var of the table is bound to r.

@@ -10,7 +10,6 @@ use lib.Dec.{eqb, leb}
 use lib.ListN.{length, take, drop, take-append-drop, length-append}
 use lib.Seq.{take-at, drop-at, length-take-le}
 use borrow.Author.Tests.{leb-true, le-leb, lt-leb, lt-ltb, le-ltb, ne-eqb}
-use borrow.Rule.Slice.PartMut.{putMid}
 use Rattle.magnetar_field.specs.Words.{elements}
 use Rattle.magnetar_matrix.specs.Matrix.{Entry, Matrix, System, share}
 use Rattle.magnetar_matrix.specs.Packed.{loginPart, publicPart, zOf}
@@ -20,21 +19,11 @@ use Rattle.magnetar_relation.specs.declared.shapes.Shapes.{Shapes}
 use Rattle.magnetar_relation.specs.Rules.{matrixAt, entriesIn, systemAt}
 use Rattle.magnetar_relation.specs.Steps.{clearedTo, addedTo, addedAll, behind, loginZ}
 use Rattle.magnetar_relation.specs.EntryWalks.{foldEntries}
-use Rattle.magnetar_relation.proofs.StepLaws.{rest-is, behind-is}
 use Rattle.magnetar_relation.proofs.RangeLaws.{same-drop, system-cut}
 use Rattle.magnetar_check.specs.declared.check.Found.{Found}
 use Rattle.magnetar_check.specs.CheckSteps.{shareAdded, productBehind, twiceOf, threeIn, rowIn, failingIn, Judged, from, loginDone, systemDone}
 
 -- ---- what is behind the first m elements
-pub behind-some : (m : ℕ) (g : List ℕ → List ℕ) (s t : List ℕ) → 2 * m ≤ length s → t ≡ g (take (length s - 2 * m) (drop (2 * m) s))
-    → putMid (2 * m) (length s - 2 * m) s t ≡ behind m g s
-unfolding behind
-behind-some m g s t h e = behind-is (2 * m) s t ∙ rw (le-leb (2 * m) (length s) h, e, rest-is (2 * m) s)
-
-pub behind-none : (m : ℕ) (g : List ℕ → List ℕ) (s : List ℕ) → length s < 2 * m → s ≡ behind m g s
-unfolding behind
-behind-none m g s h = rw (lt-leb (2 * m) (length s) h)
-
 abbrev on : Bool → ℕ → (List ℕ → List ℕ) → List ℕ → List ℕ
 on b m h s = cond b (take (2 * m) s ++ h (drop (2 * m) s)) s
 

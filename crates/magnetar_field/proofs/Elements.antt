@@ -41,6 +41,12 @@ stored-length s i v = go (ltb i (length s / 2))
     go true = simp length-set
     go false = refl
 
+-- ---- zeros
+pub words-zero : (n : ℕ) → words (replicate n 0) ≡ replicate (2 * n) 0
+unfolding words
+words-zero zero = refl
+words-zero (suc n) = rw (two-suc n, words-zero n)
+
 -- ---- an element read
 pub elements-get : (s : List ℕ) (i : ℕ) → i < length s / 2
     → getD (elements s) i 0 ≡ getD s (2 * i + 1) 0 * 2 ^ 64 + getD s (2 * i) 0

@@ -1,23 +1,23 @@
--- The eq table: its size, its entries, and how it grows by one variable.
+-- The eq table, plain and from a start: its size, its entries, and how it grows by one variable.
 -- Assumes nothing.
 use mathlib.Core.Path.{_≡_, refl, sym, ap, _∙_}
 use mathlib.Core.Bool.{Bool, true, false}
-use mathlib.Core.List.{List, [], _∷_}
+use mathlib.Core.List.{List, [], _∷_, map}
 use Prim.Native.Nat.{ℕ, zero, suc, _-_, _*_, _/_, _%_, _^_, _≤_, _<_}
 use native.Mathlib.Nat.{pow-suc}
 use native.Mathlib.Numerals.{sub-one}
 use native.Mathlib.Omega.{arith}
 use lib.Dec.{ltb, lit<}
 use borrow.Author.Tests.{ltb-true, ltb-false}
-use lib.ListN.{length, getD, drop, drop-of-length-le, List·getD-eq-default}
-use lib.Seq.{drop-cons}
+use lib.ListN.{length, getD, drop, replicate, length-map, drop-of-length-le, List·getD-eq-default, List·getD-map}
+use lib.Seq.{drop-cons, ext-getD}
 use lib.Pow.{pow-pos}
 use Rattle.magnetar_field.specs.Gf128.{_⊕_, _⊗_}
 use Rattle.magnetar_field.specs.Tabulate.{tabulate}
-use Rattle.magnetar_multilinear.specs.EqTable.{eqFactor, odd, eqAt, eqAtBits, eqTable, scaledTable}
+use Rattle.magnetar_multilinear.specs.EqTable.{eqFactor, odd, eqAt, eqAtBits, eqTable, eqTableFrom}
 use Rattle.magnetar_multilinear.specs.Doubling.{doubled}
-use Rattle.magnetar_field.proofs.Product.{⊗-comm, ⊗-left-comm, ⊗-⊕, ⊗-one, one-⊗, ⊗-lt}
-use Rattle.magnetar_field.proofs.Tabulation.{tabulate-length, tabulate-get, tabulate-of, tabulate-ext}
+use Rattle.magnetar_field.proofs.Product.{⊗-comm, ⊗-assoc, ⊗-⊕, ⊗-one, one-⊗, ⊗-zero, zero-⊗, ⊗-lt}
+use Rattle.magnetar_field.proofs.Tabulation.{tabulate-length, tabulate-get, tabulate-of}
 
 pub eqTable-length : (p : List ℕ) → length (eqTable p) ≡ 2 ^ length p
 unfolding eqTable
@@ -62,45 +62,67 @@ doubled-get r (v ∷ t) (suc (suc i)) b h =
     let m : suc (suc i) % 2 ≡ i % 2 = omega arith in
     rw (e, m) (doubled-get r t i (λ k. b (suc k)) (omega arith))
 
--- ---- the table times c
-pub scaled-length : (c : ℕ) (p : List ℕ) → length (scaledTable c p) ≡ 2 ^ length p
-unfolding scaledTable
-scaled-length c p = tabulate-length (λ i. c ⊗ eqAt p i) (2 ^ length p)
-
-pub scaled-get : (c : ℕ) (p : List ℕ) (i : ℕ) → i < 2 ^ length p → getD (scaledTable c p) i 0 ≡ c ⊗ eqAt p i
-unfolding scaledTable
-scaled-get c p i h = tabulate-get (λ i. c ⊗ eqAt p i) (2 ^ length p) i 0 h
-
-scaled-below : (c : ℕ) (p : List ℕ) (k : ℕ) → getD (scaledTable c p) k 0 < 2 ^ 128
-scaled-below c p k = go (ltb k (2 ^ length p)) refl
-  where
-    go : (b : Bool) → ltb k (2 ^ length p) ≡ b → getD (scaledTable c p) k 0 < 2 ^ 128
-    go true e = rw (scaled-get c p k (ltb-true _ _ e)) (⊗-lt c (eqAt p k))
-    go false e = rw (List·getD-eq-default (scaledTable c p) 0 {n = k} (rw scaled-length (ltb-false k (2 ^ length p) e))) (pow-pos 128)
-
-pub scaled-nil : (c : ℕ) → c < 2 ^ 128 → scaledTable c [] ≡ c ∷ []
-unfolding scaledTable tabulate eqAt
-scaled-nil c h = rw (⊗-one c h)
-
-pub scaled-cons : (c r : ℕ) (p : List ℕ) → scaledTable c (r ∷ p) ≡ doubled r (scaledTable c p)
-unfolding scaledTable
-scaled-cons c r p =
-    sym (tabulate-of (doubled r (scaledTable c p)) (λ i. c ⊗ eqAt (r ∷ p) i) (2 ^ suc (length p)) 0
-    (doubled-length r (scaledTable c p) ∙ omega (arith, scaled-length c p, pow-suc 2 (length p))) at)
-  where
-    at : (i : ℕ) → i < 2 ^ suc (length p) → getD (doubled r (scaledTable c p)) i 0 ≡ c ⊗ eqAt (r ∷ p) i
-    at i h =
-        doubled-get r (scaledTable c p) i (scaled-below c p) (omega (arith, scaled-length c p, pow-suc 2 (length p)))
-        ∙ ap (λ (x : ℕ). eqFactor r (odd i) ⊗ x) (scaled-get c p (i / 2) (omega (arith, pow-suc 2 (length p))))
-        ∙ ⊗-left-comm (eqFactor r (odd i)) c (eqAt p (i / 2)) ∙ ap (λ (x : ℕ). c ⊗ x) (sym (eqAt-cons r p i))
-
-pub scaled-one : (p : List ℕ) → scaledTable 1 p ≡ eqTable p
-unfolding scaledTable eqTable
-scaled-one p = tabulate-ext (λ i. 1 ⊗ eqAt p i) (eqAt p) (2 ^ length p) (λ i h. one-⊗ (eqAt p i) (eqAt-lt p i))
-
 pub eqTable-nil : eqTable [] ≡ 1 ∷ []
 unfolding eqTable tabulate eqAt
 eqTable-nil = refl
+
+eqTable-lt : (p : List ℕ) (k : ℕ) → getD (eqTable p) k 0 < 2 ^ 128
+eqTable-lt p k = go (ltb k (2 ^ length p)) refl
+  where
+    go : (b : Bool) → ltb k (2 ^ length p) ≡ b → getD (eqTable p) k 0 < 2 ^ 128
+    go true e = rw (eqTable-get p k (ltb-true _ _ e)) (eqAt-lt p k)
+    go false e = rw (List·getD-eq-default (eqTable p) 0 {n = k} (rw eqTable-length (ltb-false k (2 ^ length p) e))) (pow-pos 128)
+
+pub eqTable-cons : (r : ℕ) (p : List ℕ) → eqTable (r ∷ p) ≡ doubled r (eqTable p)
+unfolding eqTable
+eqTable-cons r p = sym (tabulate-of (doubled r (eqTable p)) (eqAt (r ∷ p)) (2 ^ suc (length p)) 0 (doubled-length r (eqTable p) ∙ size) at)
+  where
+    size : 2 * length (eqTable p) ≡ 2 ^ suc (length p)
+    size = omega (arith, eqTable-length p, pow-suc 2 (length p))
+
+    at : (i : ℕ) → i < 2 ^ suc (length p) → getD (doubled r (eqTable p)) i 0 ≡ eqAt (r ∷ p) i
+    at i h =
+        doubled-get r (eqTable p) i (eqTable-lt p) (omega (arith, size))
+        ∙ rw (eqTable-get p (i / 2) (omega (arith, pow-suc 2 (length p)))) (sym (eqAt-cons r p i))
+
+-- ---- the table from a start
+pub from-length : (c : ℕ) (p : List ℕ) → length (eqTableFrom c p) ≡ 2 ^ length p
+unfolding eqTableFrom
+from-length c p = rw length-map (eqTable-length p)
+
+-- at every index, past the end too
+pub from-get : (c : ℕ) (p : List ℕ) (k : ℕ) → getD (eqTableFrom c p) k 0 ≡ c ⊗ getD (eqTable p) k 0
+unfolding eqTableFrom
+from-get c p k = ap (getD (map (λ e. c ⊗ e) (eqTable p)) k) (sym (⊗-zero c)) ∙ List·getD-map (λ e. c ⊗ e) (eqTable p) k 0
+
+pub from-nil : (c : ℕ) → c < 2 ^ 128 → eqTableFrom c [] ≡ c ∷ []
+unfolding eqTableFrom
+from-nil c h = rw (eqTable-nil, ⊗-one c h)
+
+-- a level: the point's first element splits each entry, whatever the start
+doubled-map : (c r : ℕ) (t : List ℕ) → map (λ e. c ⊗ e) (doubled r t) ≡ doubled r (map (λ e. c ⊗ e) t)
+unfolding doubled
+doubled-map c r [] = refl
+doubled-map c r (v ∷ t) = rw (⊗-⊕ c v (v ⊗ r), ← ⊗-assoc c v r, doubled-map c r t)
+
+pub from-cons : (c r : ℕ) (p : List ℕ) → eqTableFrom c (r ∷ p) ≡ doubled r (eqTableFrom c p)
+unfolding eqTableFrom
+from-cons c r p = rw (eqTable-cons r p) (doubled-map c r (eqTable p))
+
+-- from 1: the table itself
+pub from-one : (p : List ℕ) → eqTableFrom 1 p ≡ eqTable p
+from-one p =
+    ext-getD 0 (eqTableFrom 1 p) (eqTable p) (from-length 1 p ∙ sym (eqTable-length p))
+    (λ k h. from-get 1 p k ∙ one-⊗ (getD (eqTable p) k 0) (eqTable-lt p k))
+
+-- from 0: zeros
+pub from-zero : (p : List ℕ) → eqTableFrom 0 p ≡ replicate (2 ^ length p) 0
+unfolding eqTableFrom
+from-zero p = rw (← eqTable-length p) (zeros (eqTable p))
+  where
+    zeros : (t : List ℕ) → map (λ e. 0 ⊗ e) t ≡ replicate (length t) 0
+    zeros [] = refl
+    zeros (v ∷ t) = rw (zero-⊗ v, zeros t)
 
 -- ---- eq at bits, the last variable first
 pub eqAtBits-none : (p : List ℕ) (bs : List Bool) (n : ℕ) → length p ≡ n → length bs ≡ n → eqAtBits (drop n p) (drop n bs) ≡ 1

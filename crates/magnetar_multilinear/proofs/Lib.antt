@@ -6,3 +6,4 @@ pub mod Extension
 pub mod Dots
 pub mod Bound
 pub mod Evaluating
+pub mod Starts

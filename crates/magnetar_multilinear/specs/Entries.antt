@@ -1,5 +1,5 @@
 -- The outcomes of the entries over tables: which refusal applies, in rising order, and what each lent slice holds at exit.
--- Source: document 01, "Field and eq tables", "Who can be turned back" (11 and 15) and "The run" (scratch words).
+-- Source: document 01, "Field and eq tables", "Who can be turned back" (11 and 15) and "The run" (scratch words); document 02, U5.
 -- Assumes nothing.
 use mathlib.Core.Bool.{Bool, not, _||_}
 use mathlib.Core.List.{List, _++_}
@@ -12,7 +12,7 @@ use Rattle.magnetar_field.specs.Gf128.{value}
 use Rattle.magnetar_field.specs.Refusal.{refuse, unlessRefused}
 use Rattle.magnetar_field.specs.Sizes.{log₂}
 use Rattle.magnetar_field.specs.Words.{elements, words}
-use Rattle.magnetar_multilinear.specs.EqTable.{eqTable, scaledTable}
+use Rattle.magnetar_multilinear.specs.EqTable.{eqTableFrom}
 use Rattle.magnetar_multilinear.specs.Multilinear.{bindVar}
 
 -- an answer: an element, or the number of a refusal
@@ -37,18 +37,14 @@ noPoint p = not (eqb (length p % 2) 0) || ltb 40 (length p)
 abbrev pub tableWords : List ℕ → ℕ
 tableWords p = 2 * 2 ^ (length p / 2)
 
--- ---- `EqBits::build`, the Rust's `eq_build_fused` too: point p, output out
+-- ---- `EqBits::build`: point p, start c, output out
 -- 11: no point; 15: less room than the table's words
 unfoldable pub eqRefusal : List ℕ → List ℕ → ℕ
 eqRefusal p out = refuse 11 (noPoint p) (refuse 15 (ltb (length out) (tableWords p)) 0)
 
--- the output: the words of the table, then what stood behind them
-abbrev pub eqOut : List ℕ → List ℕ → List ℕ
-eqOut p out = unlessRefused (eqRefusal p out) (words (eqTable (elements p)) ++ drop (tableWords p) out) out
-
--- `eq_build_scaled`: the table times c
-abbrev pub scaledOut : List ℕ → ℕ → List ℕ → List ℕ
-scaledOut p c out = unlessRefused (eqRefusal p out) (words (scaledTable c (elements p)) ++ drop (tableWords p) out) out
+-- the output: the words of the table from c, then what stood behind them
+abbrev pub eqOut : List ℕ → ℕ → List ℕ → List ℕ
+eqOut p c out = unlessRefused (eqRefusal p out) (words (eqTableFrom c (elements p)) ++ drop (tableWords p) out) out
 
 -- ---- `eq_table`: point p, bits b
 -- 11: not a bit for each element of the point

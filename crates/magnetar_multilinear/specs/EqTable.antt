@@ -1,8 +1,8 @@
 -- The equality polynomial: eq(p, i) is the product over j of p_j where bit j of i is 1, and of 1 + p_j where it is 0.
--- Source: document 01, "Field and eq tables" (`EqBits::build`).
+-- Source: document 01, "Field and eq tables" (`EqBits::build`); document 02, U5 (tables from a start).
 -- Assumes nothing.
 use mathlib.Core.Bool.{Bool, true, false}
-use mathlib.Core.List.{List, [], _∷_}
+use mathlib.Core.List.{List, [], _∷_, map}
 use Prim.Native.Nat.{ℕ, _/_, _%_, _^_}
 use lib.Dec.{eqb}
 use lib.ListN.{length}
@@ -33,6 +33,6 @@ eqAtBits (r ∷ p) (b ∷ bs) = eqFactor r b ⊗ eqAtBits p bs
 unfoldable pub eqTable : List ℕ → List ℕ
 eqTable p = tabulate (eqAt p) (2 ^ length p)
 
--- the same, each entry times c
-unfoldable pub scaledTable : ℕ → List ℕ → List ℕ
-scaledTable c p = tabulate (λ i. c ⊗ eqAt p i) (2 ^ length p)
+-- the table from the start c: each of these entries times c
+unfoldable pub eqTableFrom : ℕ → List ℕ → List ℕ
+eqTableFrom c p = map (λ e. c ⊗ e) (eqTable p)

@@ -3,3 +3,4 @@ pub mod EqTable
 pub mod Multilinear
 pub mod Binding
 pub mod Entries
+pub mod Starts

@@ -1,4 +1,5 @@
-// Equality tables: eq(p, i) is the product over j of p_j where bit j of i is 1, and of 1 + p_j where it is 0.
+// Equality tables: eq(p, i) is the product over j of p_j where bit j of i is 1, and of 1 + p_j where it is 0; a table from a start has
+// that element times each.
 use magnetar_field::gf128;
 use magnetar_field::gf128::Evaluated;
 use magnetar_field::gf128::Gf128;
@@ -9,9 +10,9 @@ ghost use Prim.Native.Nat.{_+_, _*_, _^_, _≤_, _<_};
 ghost use lib.ListN.{length, take};
 ghost use Rattle.magnetar_field.specs.Gf128.{value};
 ghost use Rattle.magnetar_field.specs.Words.{elements};
-ghost use Rattle.magnetar_multilinear.specs.EqTable.{eqFactor, eqAtBits, scaledTable};
+ghost use Rattle.magnetar_multilinear.specs.EqTable.{eqFactor, eqAtBits, eqTableFrom};
 ghost use Rattle.magnetar_multilinear.specs.Doubling.{splitEntry, doubled};
-ghost use Rattle.magnetar_multilinear.specs.Entries.{answer, answered, eqRefusal, eqOut, scaledOut, eqAtBitsRefusal};
+ghost use Rattle.magnetar_multilinear.specs.Entries.{answer, answered, eqRefusal, eqOut, eqAtBitsRefusal};
 
 // The factor of one variable.
 pub fn eq_char2(x: Gf128, b: bool) -> Gf128
@@ -39,34 +40,26 @@ pub fn eq_table(point: &[u64], bits: &[bool]) -> Evaluated
 pub struct EqBits {}
 
 impl EqBits {
-    // The table of eq at the point. 11: no point of at most 20 elements; 15: too little room; 0: out begins with the table.
-    pub fn build(point: &[u64], out: &mut [u64]) -> u32
+    // The table of eq at the point, from start: each entry times it. From 1 it is the table itself, from 0 it is zeros.
+    // 11: no point of at most 20 elements; 15: too little room; 0: out begins with the table.
+    pub fn build(point: &[u64], start: Gf128, out: &mut [u64]) -> u32
         ensures refusal { λ r. ⌜ r ≡ eqRefusal (now (point .entry)) (now (out .entry)) ⌝ }
-        ensures table { λ _. ⌜ now (out .exit) ≡ eqOut (now (point .entry)) (now (out .entry)) ⌝ }
+        ensures table { λ _. ⌜ now (out .exit) ≡ eqOut (now (point .entry)) (value start) (now (out .entry)) ⌝ }
     {
-        eq_build_scaled(point, ONE, out)
+        if point.len() % 2 != 0 {
+            return 11;
+        }
+        if point.len() > 40 {
+            return 11;
+        }
+        let n = point.len() / 2;
+        let need = table_words(n);
+        if out.len() < need {
+            return 15;
+        }
+        fill(point, start, &mut out[..need], n);
+        0
     }
-}
-
-// The table with each entry times c, at no more products: the first entry is c in the place of 1. One product and one sum for each entry
-// and level.
-pub fn eq_build_scaled(point: &[u64], c: Gf128, out: &mut [u64]) -> u32
-    ensures refusal { λ r. ⌜ r ≡ eqRefusal (now (point .entry)) (now (out .entry)) ⌝ }
-    ensures table { λ _. ⌜ now (out .exit) ≡ scaledOut (now (point .entry)) (value c) (now (out .entry)) ⌝ }
-{
-    if point.len() % 2 != 0 {
-        return 11;
-    }
-    if point.len() > 40 {
-        return 11;
-    }
-    let n = point.len() / 2;
-    let need = table_words(n);
-    if out.len() < need {
-        return 15;
-    }
-    fill(point, &mut out[..need], n, c);
-    0
 }
 
 // How many words a table of 2^n elements has.
@@ -114,12 +107,13 @@ fn expand(out: &mut [u64], m: usize, r: Gf128)
     }
 }
 
-// Fills out with c times the table of eq at the point's n elements, the last element first.
-fn fill(point: &[u64], out: &mut [u64], n: usize, c: Gf128)
+// Fills out with the table of eq at the point's n elements, from start: the last element first, one product and one sum for each entry
+// that is split. The start costs no product: it stands where a plain table begins with 1.
+fn fill(point: &[u64], start: Gf128, out: &mut [u64], n: usize)
     requires { ⌜ (n ≤ 20) × (length (now point) ≡ 2 * n) × (length (now out) ≡ 2 * 2 ^ n) ⌝ }
-    ensures { λ _. ⌜ elements (now (out .exit)) ≡ scaledTable (value c) (elements (now (point .entry))) ⌝ }
+    ensures { λ _. ⌜ elements (now (out .exit)) ≡ eqTableFrom (value start) (elements (now (point .entry))) ⌝ }
 {
-    words::put(out, 0, c);
+    words::put(out, 0, start);
     let mut j = n;
     let mut m = 1;
     while j > 0 {

@@ -48,7 +48,7 @@ module _ (draws s last : List ℕ) (o x w : ℕ) (few : x ≤ 20) (room : 2 * (o
   tau-is : elements part ≡ take x (drop o (elements draws))
   tau-is = ap elements (part-is draws (2 * o) (2 * x)) ∙ (sym (elements-take x (drop (2 * o) draws)) ∙ ap (take x) (sym (elements-drop o draws)))
 
-  module _ (e : last ≡ eqOut part (take w s)) where
+  module _ (e : last ≡ eqOut part 1 (take w s)) where
     built : last ≡ words (eqTable (take x (drop o (elements draws))))
     built = e ∙ (eq-built part (take w s) tau-point ∙ ap (λ (l : List ℕ). words (eqTable l)) tau-is)
 

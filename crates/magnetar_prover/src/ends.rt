@@ -1,5 +1,6 @@
 // The ends of the outer sum-check: the taus and their eq tables in front of its rounds, the terminals and the alphas behind them.
 use crate::events;
+use magnetar_field::gf128::ONE;
 use magnetar_field::words;
 use magnetar_hash::transcript::Transcript;
 use magnetar_multilinear::eq::EqBits;
@@ -33,7 +34,7 @@ fn begin_table(o: usize, x: usize, w: usize, draws: &[u64], s: &mut [u64])
 {
     let a = 2 * o;
     let e = a + 2 * x;
-    let _done = EqBits::build(&draws[a..e], &mut s[..w]);
+    let _done = EqBits::build(&draws[a..e], ONE, &mut s[..w]);
 }
 
 // The eq tables of both tau, in the blocks of bin and of fld.

@@ -2,6 +2,7 @@
 use crate::events;
 use crate::guard;
 use magnetar_field::gf128::Gf128;
+use magnetar_field::gf128::ONE;
 use magnetar_field::sizes;
 use magnetar_field::words;
 use magnetar_hash::transcript;
@@ -165,7 +166,7 @@ fn segment_value(w: usize, lens: &[usize], i: usize, draws: &[u64], s: &mut [u64
     let k = 2 * sizes::log2(n);
     let a = 2 * w;
     let e = a + 2 * n;
-    let _done = EqBits::build(&draws[..k], &mut s[a..e]);
+    let _done = EqBits::build(&draws[..k], ONE, &mut s[a..e]);
     segment_dot(w, lens, i, n, s)
 }
 

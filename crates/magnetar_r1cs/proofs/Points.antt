@@ -17,7 +17,7 @@ use Rattle.magnetar_multilinear.specs.EqTable.{eqTable, eqAt}
 use Rattle.magnetar_multilinear.specs.Entries.{eqRefusal, eqOut, tableWords}
 use Rattle.magnetar_field.specs.Gf128.{_⊗_}
 use Rattle.magnetar_field.proofs.Elements.{elements-length}
-use Rattle.magnetar_multilinear.proofs.EqTables.{eqTable-length, eqTable-get}
+use Rattle.magnetar_multilinear.proofs.EqTables.{eqTable-length, eqTable-get, from-one}
 use Rattle.magnetar_matrix.specs.Matrix.{Entry}
 use Rattle.magnetar_matrix.specs.Table.{Point, cross}
 use Rattle.magnetar_layout.proofs.EveryLaws.{both}
@@ -40,8 +40,8 @@ point-of least n p s z l r =
     let k : length p / 2 ≡ log₂ n = omega arith in
     record { even = omega arith; short = omega arith; room = rw (k, ← z .power) r }
 
--- what `EqBits::build` leaves there
-pub eq-built : (p s : List ℕ) → Point p s → eqOut p s ≡ words (eqTable (elements p))
+-- what `EqBits::build` leaves there from 1
+pub eq-built : (p s : List ℕ) → Point p s → eqOut p 1 s ≡ words (eqTable (elements p))
 unfolding eqRefusal
 eq-built p s h =
     rw (
@@ -50,6 +50,7 @@ eq-built p s h =
       le-ltb (length s) (tableWords p) (omega (arith, h .room)),
       drop-of-length-le s {i = tableWords p} (omega (arith, h .room)),
       append-nil,
+      from-one,
     )
 
 -- a point's elements are as many as the logarithm says

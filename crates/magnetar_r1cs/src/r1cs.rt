@@ -4,6 +4,7 @@ use crate::masks;
 use crate::walk;
 use magnetar_field::gf128::Evaluated;
 use magnetar_field::gf128::Gf128;
+use magnetar_field::gf128::ONE;
 use magnetar_field::sizes;
 use magnetar_field::words;
 use magnetar_layout::tests;
@@ -98,7 +99,7 @@ fn table_in(
     ensures { λ _. ⌜ now (out .exit) ≡ words (tabulate (rowTotal (share (eqTable (elements (now (point .entry))))) (entriesOf (now (col .entry)) (now (row .entry)) (now (lo .entry)) (now (hi .entry)))) (length (now (out .entry)) / 2)) ⌝ }
     ensures { λ _. ⌜ now (s .exit) ≡ replicate (length (now (s .entry))) 0 ⌝ }
 {
-    let _done = EqBits::build(point, s);
+    let _done = EqBits::build(point, ONE, s);
     product(col, row, lo, hi, s, out);
     words::clear(s);
 }
@@ -163,8 +164,8 @@ fn sum_in(
     ensures { λ _. ⌜ now (s .exit) ≡ replicate (length (now (s .entry))) 0 ⌝ }
 {
     let k = 2 * n;
-    let _rows = EqBits::build(r, &mut s[..k]);
-    let _cols = EqBits::build(c, &mut s[k..]);
+    let _rows = EqBits::build(r, ONE, &mut s[..k]);
+    let _cols = EqBits::build(c, ONE, &mut s[k..]);
     let v = walk::sum_products(row, col, lo, hi, s, n);
     words::clear(s);
     v

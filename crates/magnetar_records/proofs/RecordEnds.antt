@@ -14,9 +14,10 @@ use Rattle.magnetar_field.specs.Words.{elements, words}
 use Rattle.magnetar_field.specs.Tabulate.{tabulate}
 use Rattle.magnetar_field.specs.Sizes.{log₂}
 use Rattle.magnetar_field.specs.Gf128.{_⊗_}
+use Rattle.magnetar_field.proofs.Elements.{words-length}
 use Rattle.magnetar_multilinear.specs.EqTable.{eqTable, eqAt}
 use Rattle.magnetar_multilinear.specs.Entries.{eqRefusal, eqOut, tableWords, Answer, answered}
-use Rattle.magnetar_multilinear.proofs.EqTables.{eqTable-length, eqTable-get}
+use Rattle.magnetar_multilinear.proofs.EqTables.{eqTable-length, eqTable-get, from-one}
 use Rattle.magnetar_layout.specs.Every.{every}
 use Rattle.magnetar_layout.specs.Tests.{firstRefusal, Sized}
 use Rattle.magnetar_layout.proofs.FirstRefusal.{first-refusal-clear}
@@ -33,7 +34,7 @@ use Rattle.magnetar_records.specs.Records.{entriesOfRecords, lentOf}
 use Rattle.magnetar_relation.specs.Rules.{liesIn}
 use Rattle.magnetar_relation.specs.Steps.{clearedTo, addedAll, between, behind}
 use Rattle.magnetar_records.specs.Steps.{loneOf, applyTests, tableTests, atTests, pairShare}
-use Rattle.magnetar_relation.proofs.TableWords.{cleared-added, words-length, front-cleared, front-read}
+use Rattle.magnetar_relation.proofs.TableWords.{cleared-added, front-cleared, front-read}
 use Rattle.magnetar_records.proofs.RecordLaws.{lone-same, matrix-of}
 
 -- ---- `is_binary`
@@ -90,13 +91,13 @@ module _ (n m : ℕ) (es : List Entry) (z out : List ℕ) (inside go : Bool) (k 
 
 -- ---- the eq table of a point of the wanted length, in front of what is left of the words
 eq-in-front : (least n : ℕ) (p s : List ℕ) → Sized least 65536 n → length p ≡ 2 * log₂ n → 2 * n ≤ length s
-    → eqOut p s ≡ words (eqTable (elements p)) ++ drop (2 * n) s
+    → eqOut p 1 s ≡ words (eqTable (elements p)) ++ drop (2 * n) s
 unfolding eqRefusal
 eq-in-front least n p s z l h =
     let q : Point p (take (2 * n) s) = point-of least n p (take (2 * n) s) z l (length-take-le (2 * n) s h) in
     let w : tableWords p ≡ 2 * n = sym (q .room) ∙ length-take-le (2 * n) s h in
     let b : tableWords p ≤ length s = omega (arith, w, h) in
-    rw (eq-eqb (length p % 2) 0 (q .even), le-ltb 40 (length p) (q .short), le-ltb (length s) (tableWords p) b, w)
+    rw (eq-eqb (length p % 2) 0 (q .even), le-ltb 40 (length p) (q .short), le-ltb (length s) (tableWords p) b, w, from-one)
 
 eq-size : (least n : ℕ) (p : List ℕ) → Sized least 65536 n → length p ≡ 2 * log₂ n → length (eqTable (elements p)) ≡ n
 eq-size least n p z l = eqTable-length (elements p) ∙ sym (point-size least n p z l)
@@ -139,7 +140,7 @@ module _ (n m : ℕ) (es : List Entry) (p out s : List ℕ) (inside go : Bool) (
       → (k ≡ tableRefusal (lentOf n m es) p out s) × (out ≡ tableOut (lentOf n m es) p out s) × (s ≡ tableScratch (lentOf n m es) p out s)
   table-back b = (table-refusal, turned-back _ _ go table-refusal g b, turned-back _ _ go table-refusal g b)
 
-  pub table-done : (s₁ o₁ s₂ o₂ s₃ : List ℕ) → go ≡ true → s₁ ≡ eqOut p s → o₁ ≡ clearedTo m out → s₂ ≡ s₁
+  pub table-done : (s₁ o₁ s₂ o₂ s₃ : List ℕ) → go ≡ true → s₁ ≡ eqOut p 1 s → o₁ ≡ clearedTo m out → s₂ ≡ s₁
       → o₂ ≡ addedAll m (share (elements (take (2 * n) s₁))) (map swapped (entriesOfRecords es)) o₁ → s₃ ≡ clearedTo n s₂
       → (k ≡ tableRefusal (lentOf n m es) p out s) × (o₂ ≡ tableOut (lentOf n m es) p out s) × (s₃ ≡ tableScratch (lentOf n m es) p out s)
   table-done s₁ o₁ s₂ o₂ s₃ b e₁ c₁ e₂ c₂ e₃ =
@@ -178,7 +179,7 @@ module _ (n m : ℕ) (r c t : List ℕ) (en : length r ≡ n) (em : length c ≡
   pair-is e = rw (first-is (e .row), second-is (e .col))
 
 -- a table behind another
-behind-table : (n : ℕ) (p t s u : List ℕ) → length t ≡ n → eqOut p s ≡ u → behind n (eqOut p) (words t ++ s) ≡ words t ++ u
+behind-table : (n : ℕ) (p t s u : List ℕ) → length t ≡ n → eqOut p 1 s ≡ u → behind n (eqOut p 1) (words t ++ s) ≡ words t ++ u
 unfolding behind
 behind-table n p t s u l e =
     let w : length (words t) ≡ 2 * n = words-length t ∙ ap (λ (i : ℕ). 2 * i) l in
@@ -236,7 +237,7 @@ module _ (n m : ℕ) (es : List Entry) (r c s : List ℕ) (within go : Bool) (k 
   at-is = rw (matrix-of n m es)
 
   at-end : (b : Bool) (s₁ : List ℕ) (v : ℕ) (a : Answer) → go ≡ b
-      → (v ≡ cond b (sumOver (pairShare n m (behind n (eqOut c) (eqOut r s))) (entriesOfRecords es)) 0) × (s₁ ≡ cond b (clearedTo (n + m) (behind n (eqOut c) (eqOut r s))) s)
+      → (v ≡ cond b (sumOver (pairShare n m (behind n (eqOut c 1) (eqOut r 1 s))) (entriesOfRecords es)) 0) × (s₁ ≡ cond b (clearedTo (n + m) (behind n (eqOut c 1) (eqOut r 1 s))) s)
       → a ≡ answered k v → (a ≡ atAnswer (lentOf n m es) r c s) × (s₁ ≡ atScratch (lentOf n m es) r c s)
   at-end false s₁ v a b e₁ e₂ = (e₂ ∙ rw (← at-refusal, ← g, b), e₁ .1 ∙ turned-back _ _ go at-refusal g b)
   at-end true s₁ v a b e₁ e₂ =
@@ -246,7 +247,7 @@ module _ (n m : ℕ) (es : List Entry) (r c s : List ℕ) (within go : Bool) (k 
       let D = drop (2 * m) (drop (2 * n) s) in
       let lr : length R ≡ n = eq-size 1 n r (f .rows-size) (f .rows-point) in
       let lc : length C ≡ m = eq-size 2 m c (f .cols-size) (f .cols-point) in
-      let w : behind n (eqOut c) (eqOut r s) ≡ words R ++ (words C ++ D) =
+      let w : behind n (eqOut c 1) (eqOut r 1 s) ≡ words R ++ (words C ++ D) =
       rw (eq-in-front 1 n r s (f .rows-size) (f .rows-point) (omega (arith, f .scratch)))
       (behind-table n c R (drop (2 * n) s) _ lr (eq-in-front 2 m c (drop (2 * n) s) (f .cols-size) (f .cols-point) (rw length-drop (omega (arith, f .scratch))))) in
       let pn : n ≡ 2 ^ length (elements r) = point-size 1 n r (f .rows-size) (f .rows-point) in
@@ -259,14 +260,14 @@ module _ (n m : ℕ) (es : List Entry) (r c s : List ℕ) (within go : Bool) (k 
       (e₂ ∙ rw (x, at-refusal), y ∙ (at-scratch ∙ went-on _ _ go at-refusal g b))
 
   pub at-ends : (s₁ : List ℕ) (v : ℕ) (a : Answer)
-      → (v ≡ cond go (sumOver (pairShare n m (behind n (eqOut c) (eqOut r s))) (entriesOfRecords es)) 0) × (s₁ ≡ cond go (clearedTo (n + m) (behind n (eqOut c) (eqOut r s))) s)
+      → (v ≡ cond go (sumOver (pairShare n m (behind n (eqOut c 1) (eqOut r 1 s))) (entriesOfRecords es)) 0) × (s₁ ≡ cond go (clearedTo (n + m) (behind n (eqOut c 1) (eqOut r 1 s))) s)
       → a ≡ answered k v → (a ≡ atAnswer (lentOf n m es) r c s) × (s₁ ≡ atScratch (lentOf n m es) r c s)
   at-ends s₁ v a e₁ e₂ = at-end go s₁ v a refl e₁ e₂
 
 -- what the sum at two points leaves, call by call
 module _ (n m v : ℕ) (es : List Entry) (r c s : List ℕ) (go : Bool) where
   abbrev tables : List ℕ
-  tables = behind n (eqOut c) (eqOut r s)
+  tables = behind n (eqOut c 1) (eqOut r 1 s)
 
   abbrev Leaves : List ℕ → Type 0
   Leaves t = (v ≡ cond go (sumOver (pairShare n m tables) (entriesOfRecords es)) 0) × (t ≡ cond go (clearedTo (n + m) tables) s)
@@ -274,8 +275,8 @@ module _ (n m v : ℕ) (es : List Entry) (r c s : List ℕ) (go : Bool) where
   pub sum-none : go ≡ false → v ≡ 0 → Leaves s
   sum-none b e = rw b (e, refl)
 
-  pub sum-some : (s₁ s₂ s₃ s₄ : List ℕ) → go ≡ true → s₁ ≡ eqOut r s → s₂ ≡ behind n (eqOut c) s₁
+  pub sum-some : (s₁ s₂ s₃ s₄ : List ℕ) → go ≡ true → s₁ ≡ eqOut r 1 s → s₂ ≡ behind n (eqOut c 1) s₁
       → (v ≡ sumOver (pairShare n m s₂) (entriesOfRecords es)) × (s₃ ≡ s₂) → s₄ ≡ clearedTo (n + m) s₃ → Leaves s₄
   sum-some s₁ s₂ s₃ s₄ b e₁ e₂ e₃ e₄ =
-      let w : s₂ ≡ tables = e₂ ∙ ap (behind n (eqOut c)) e₁ in
+      let w : s₂ ≡ tables = e₂ ∙ ap (behind n (eqOut c 1)) e₁ in
       rw b (e₃ .0 ∙ ap (λ (t : List ℕ). sumOver (pairShare n m t) (entriesOfRecords es)) w, e₄ ∙ ap (clearedTo (n + m)) (e₃ .1 ∙ w))

@@ -163,8 +163,8 @@ fn sum_pairs(es: &[Entry], n: usize, m: usize, s: &mut [u64]) -> Gf128
 
 // The same with the eq tables of the points r and c for factors, which are made in s and cleared; 0 where it is not to go.
 fn sum_at(go: bool, es: &[Entry], n: usize, m: usize, r: &[u64], c: &[u64], s: &mut [u64]) -> Gf128
-    ensures { λ v. ⌜ (value v ≡ cond go (sumOver (pairShare n m (behind n (eqOut (now (c .entry))) (eqOut (now (r .entry)) (now (s .entry))))) (entriesOfRecords (now (es .entry)))) 0)
-        × (now (s .exit) ≡ cond go (clearedTo (n + m) (behind n (eqOut (now (c .entry))) (eqOut (now (r .entry)) (now (s .entry))))) (now (s .entry))) ⌝ }
+    ensures { λ v. ⌜ (value v ≡ cond go (sumOver (pairShare n m (behind n (eqOut (now (c .entry)) 1) (eqOut (now (r .entry)) 1 (now (s .entry))))) (entriesOfRecords (now (es .entry)))) 0)
+        × (now (s .exit) ≡ cond go (clearedTo (n + m) (behind n (eqOut (now (c .entry)) 1) (eqOut (now (r .entry)) 1 (now (s .entry))))) (now (s .entry))) ⌝ }
 {
     if go {
         steps::eq_front(r, s);

@@ -20,6 +20,7 @@ use crate::records::Entry;
 use magnetar_field::gf128;
 use magnetar_field::gf128::Evaluated;
 use magnetar_field::gf128::Gf128;
+use magnetar_field::gf128::ONE;
 use magnetar_field::sizes;
 use magnetar_field::words;
 use magnetar_layout::tests;
@@ -161,14 +162,14 @@ pub(crate) fn at_refusal(
 
 // The eq table of a point, in front.
 pub(crate) fn eq_front(point: &[u64], s: &mut [u64])
-    ensures { λ _. ⌜ now (s .exit) ≡ eqOut (now (point .entry)) (now (s .entry)) ⌝ }
+    ensures { λ _. ⌜ now (s .exit) ≡ eqOut (now (point .entry)) 1 (now (s .entry)) ⌝ }
 {
-    let _done = EqBits::build(point, s);
+    let _done = EqBits::build(point, ONE, s);
 }
 
 // The eq table of a point, behind n elements.
 pub(crate) fn eq_behind(n: usize, point: &[u64], s: &mut [u64])
-    ensures { λ _. ⌜ now (s .exit) ≡ behind n (eqOut (now (point .entry))) (now (s .entry)) ⌝ }
+    ensures { λ _. ⌜ now (s .exit) ≡ behind n (eqOut (now (point .entry)) 1) (now (s .entry)) ⌝ }
 {
     if n <= s.len() / 2 {
         let k = 2 * n;

@@ -9,7 +9,6 @@ use lib.Seq.{take-all}
 use borrow.Author.Tests.{le-leb, lt-leb}
 use borrow.Rule.Slice.PartMut.{putMid}
 use Rattle.magnetar_field.specs.Words.{elements}
-use Rattle.magnetar_multilinear.specs.Entries.{eqOut}
 use Rattle.magnetar_relation.specs.Steps.{front, between, behind, clearedTo}
 
 -- what lies from k on
@@ -21,10 +20,15 @@ behind-is k s t =
     let e : drop (length s - k) (drop k s) ≡ [] = drop-of-length-le (drop k s) {i = length s - k} (rw length-drop (omega arith)) in
     rw (e, append-nil)
 
-pub built-behind : (n : ℕ) (p s t : List ℕ) → 2 * n ≤ length s → t ≡ eqOut p (take (length s - 2 * n) (drop (2 * n) s))
-    → putMid (2 * n) (length s - 2 * n) s t ≡ behind n (eqOut p) s
+-- where g made what is behind the first n elements, and where there are fewer
+pub behind-some : (n : ℕ) (g : List ℕ → List ℕ) (s t : List ℕ) → 2 * n ≤ length s → t ≡ g (take (length s - 2 * n) (drop (2 * n) s))
+    → putMid (2 * n) (length s - 2 * n) s t ≡ behind n g s
 unfolding behind
-built-behind n p s t h e = behind-is (2 * n) s t ∙ rw (le-leb (2 * n) (length s) h, e, rest-is (2 * n) s)
+behind-some n g s t h e = behind-is (2 * n) s t ∙ rw (le-leb (2 * n) (length s) h, e, rest-is (2 * n) s)
+
+pub behind-none : (n : ℕ) (g : List ℕ → List ℕ) (s : List ℕ) → length s < 2 * n → s ≡ behind n g s
+unfolding behind
+behind-none n g s h = rw (lt-leb (2 * n) (length s) h)
 
 pub front-all : (n k : ℕ) (s : List ℕ) → length s ≤ 2 * n → getD (elements s) k 0 ≡ front n s k
 unfolding front
@@ -43,7 +47,3 @@ between-none n m k s h =
 pub cleared-none : (n : ℕ) (s : List ℕ) → length s < 2 * n → s ≡ clearedTo n s
 unfolding clearedTo
 cleared-none n s h = rw (lt-leb (2 * n) (length s) h)
-
-pub built-none : (n : ℕ) (p s : List ℕ) → length s < 2 * n → s ≡ behind n (eqOut p) s
-unfolding behind
-built-none n p s h = rw (lt-leb (2 * n) (length s) h)

@@ -2,7 +2,7 @@
 -- Assumes nothing.
 use mathlib.Core.Path.{_≡_, refl, sym, ap, _∙_}
 use mathlib.Core.List.{List, [], _∷_, _++_}
-use Prim.Native.Nat.{ℕ, zero, suc, _*_, _^_, _<_, _≤_}
+use Prim.Native.Nat.{ℕ, _*_, _^_, _<_, _≤_}
 use native.Mathlib.Omega.{arith}
 use lib.ListN.{length, getD, take, drop, replicate, length-append, length-replicate}
 use lib.Seq.{take-at, drop-at, length-take-le}
@@ -10,7 +10,7 @@ use borrow.Author.Tests.{le-leb}
 use Rattle.magnetar_field.specs.Gf128.{_⊕_}
 use Rattle.magnetar_field.specs.Words.{elements, words}
 use Rattle.magnetar_field.specs.Tabulate.{tabulate}
-use Rattle.magnetar_field.proofs.Elements.{words-elements}
+use Rattle.magnetar_field.proofs.Elements.{words-length, words-zero, words-elements}
 use Rattle.magnetar_field.proofs.Xor.{⊕-zero, ⊕-assoc}
 use Rattle.magnetar_matrix.specs.Matrix as matrix
 use Rattle.magnetar_matrix.specs.Matrix.{rowTotal, sumOver}
@@ -28,16 +28,6 @@ added-more n f e es out out′ q = ap (addedAll n f es) q
 pub added-end : (n : ℕ) (f : matrix.Entry → ℕ) (out : List ℕ) → out ≡ addedAll n f [] out
 unfolding addedAll
 added-end n f out = refl
-
-pub words-length : (t : List ℕ) → length (words t) ≡ 2 * length t
-unfolding words
-words-length [] = refl
-words-length (v ∷ t) = let e = words-length t in omega (arith, e)
-
-words-zero : (n : ℕ) → words (replicate n 0) ≡ replicate (2 * n) 0
-unfolding words
-words-zero zero = refl
-words-zero (suc n) = let e : 2 * suc n ≡ suc (suc (2 * n)) = omega arith in rw (e, words-zero n)
 
 -- words of which the first were cleared, or changed in one element
 pub cleared-words : (n : ℕ) (out t : List ℕ) → 2 * n ≤ length out → t ≡ replicate (length (take (2 * n) out)) 0 → t ++ drop (2 * n) out ≡ clearedTo n out

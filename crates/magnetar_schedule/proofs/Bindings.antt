@@ -23,7 +23,7 @@ use Rattle.magnetar_field.proofs.Product.{⊗-comm, ⊗-left-comm, ⊗-⊕, ⊗
 use Rattle.magnetar_field.proofs.Tabulation.{tabulate-length, tabulate-get, tabulate-out, tabulate-ext}
 use Rattle.magnetar_multilinear.proofs.Extension.{mle-snoc, mle-nil, dot-nil}
 use Rattle.magnetar_field.proofs.Polynomial.{AllBelow}
-use Rattle.magnetar_multilinear.proofs.EqTables.{eqTable-length, eqTable-get, scaled-one, scaled-cons}
+use Rattle.magnetar_multilinear.proofs.EqTables.{eqTable-length, eqTable-get, eqTable-cons}
 use Rattle.magnetar_multilinear.proofs.Evaluating.{bindVar-length}
 use Rattle.magnetar_sumcheck_verifier.specs.Order.{nextVar, fewer}
 use Rattle.magnetar_sumcheck_verifier.specs.Messages.{Outer, outerStart, outerVar, outerFold}
@@ -72,9 +72,6 @@ dot-doubled r (v ∷ e) (a ∷ b ∷ t) h =
   where
     pair : (r v a b s : ℕ) → a ⊗ (v ⊕ v ⊗ r) ⊕ (b ⊗ (v ⊗ r) ⊕ s) ≡ line r a b ⊗ v ⊕ s
     pair r v a b s = unfold line in simp (xor, ⊗-comm, ⊗-left-comm, ⊗-⊕)
-
-eqTable-cons : (r : ℕ) (p : List ℕ) → eqTable (r ∷ p) ≡ doubled r (eqTable p)
-eqTable-cons r p = sym (scaled-one (r ∷ p)) ∙ scaled-cons 1 r p ∙ ap (doubled r) (scaled-one p)
 
 pub mle-cons : (t p : List ℕ) (r : ℕ) → length t ≡ 2 * 2 ^ length p → mle t (r ∷ p) ≡ mle (bindVar 0 r t) p
 unfolding mle

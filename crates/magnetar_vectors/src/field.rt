@@ -10,6 +10,7 @@ use crate::text::print_refusal;
 use crate::text::{self};
 use magnetar_field::gf128::Evaluated;
 use magnetar_field::gf128::Gf128;
+use magnetar_field::gf128::ONE;
 use magnetar_field::gf128::{self};
 use magnetar_field::sizes;
 use magnetar_field::words;
@@ -80,7 +81,7 @@ pub(crate) fn print_evaluated(v: Evaluated) {
     }
 }
 
-// eq P, fused P: the table.
+// eq P C, fused P: the table.
 fn print_table(code: u32, p: &[u64], out: &[u64]) {
     if code == 0 {
         print_line(text::first(out, text::table_words(p.len() / 2)));
@@ -89,11 +90,11 @@ fn print_table(code: u32, p: &[u64], out: &[u64]) {
     }
 }
 
-// eqroom K P: the outcome where K words are lent for the table.
-fn eqroom(k: usize, p: &[u64], out: &mut [u64]) {
+// eqroom K P C: the outcome where K words are lent for the table.
+fn eqroom(k: usize, p: &[u64], c: Gf128, out: &mut [u64]) {
     let room = text::front(out, k);
     text::fill(room, text::MARK);
-    let code = EqBits::build(p, room);
+    let code = EqBits::build(p, c, room);
     print_code(code, room);
 }
 
@@ -209,12 +210,12 @@ fn tables(op: u64, nums: &[u64], out: &mut [u64]) -> bool {
     let v = list(nums, 0);
     let p = list(nums, plus(1, v.len()));
     if op == EQ {
-        let code = EqBits::build(v, out);
+        let code = EqBits::build(v, words::get(p, 0), out);
         print_table(code, v, out);
         return true;
     }
     if op == FUSED {
-        let code = EqBits::build(v, out);
+        let code = EqBits::build(v, ONE, out);
         print_table(code, v, out);
         return true;
     }
@@ -285,7 +286,7 @@ fn numbered(op: u64, nums: &[u64], out: &mut [u64]) -> bool {
     let v = list(nums, 1);
     let p = list(nums, plus(2, v.len()));
     if op == EQROOM {
-        eqroom(n, v, out);
+        eqroom(n, v, words::get(p, 0), out);
         return true;
     }
     if op == MLEROOM {

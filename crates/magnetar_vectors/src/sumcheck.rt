@@ -11,6 +11,7 @@ use crate::text::print_line;
 use crate::text::{self};
 use magnetar_field::gf128::Evaluated;
 use magnetar_field::gf128::Gf128;
+use magnetar_field::gf128::ONE;
 use magnetar_field::words;
 use magnetar_multilinear::eq::EqBits;
 use magnetar_multilinear::multilinear;
@@ -239,7 +240,7 @@ fn store(nums: &[u64], w: &mut [u64]) {
 // The tables of a query, and whether the table of eq was refused.
 fn prepared(nums: &[u64], w: &mut [u64]) -> u32 {
     store(nums, w);
-    EqBits::build(nth(nums, 1, 1), text::front(w, 128))
+    EqBits::build(nth(nums, 1, 1), ONE, text::front(w, 128))
 }
 
 // The rounds, and the end.

@@ -21,7 +21,7 @@ use Rattle.magnetar_verifier.proofs.Pieces.{elements-take, elements-par
 
 -- ---- the table in front of its eq table
 pub table-is : (m : ℕ) (s point u post : List ℕ) → Sized 2 65536 m → length s ≡ 4 * m → length point ≡ 2 * log₂ m
-    → u ≡ eqOut point (take (4 * m - 2 * m) (drop (2 * m) s))
+    → u ≡ eqOut point 1 (take (4 * m - 2 * m) (drop (2 * m) s))
     → dot (elements (take (2 * m - 0) (take (2 * m) s ++ (u ++ post))))
     (elements (take (4 * m - 2 * m) (drop (2 * m) (take (2 * m) s ++ (u ++ post))))) ≡ mle (take m (elements s)) (elements point)
 unfolding mle
@@ -69,7 +69,7 @@ module _ (m : ℕ) (s low u post : List ℕ) (P : Sized 2 65536 m) (ls : length 
   half-kept = rw (parts, ← elements-take m (take (2 * m) s ++ (half ++ (u ++ post))), ← elements-take m s)
       (ap elements (take-at (take (2 * m) s) (half ++ (u ++ post)) (2 * m) table))
 
-  pub half-is : length low ≡ 2 * (log₂ m - 1) → u ≡ eqOut low (take (4 * m - 3 * m) (drop (3 * m) s))
+  pub half-is : length low ≡ 2 * (log₂ m - 1) → u ≡ eqOut low 1 (take (4 * m - 3 * m) (drop (3 * m) s))
       → dot (elements (take (3 * m - 2 * m) (drop (2 * m) (take (3 * m) s ++ (u ++ post)))))
       (elements (take (4 * m - 3 * m) (drop (3 * m) (take (3 * m) s ++ (u ++ post))))) ≡ mle (take (m / 2) (drop m (elements s))) (elements low)
   unfolding mle

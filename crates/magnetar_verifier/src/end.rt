@@ -84,7 +84,7 @@ fn table_value(s: &mut [u64], point: &[u64], m: usize) -> Gf128
 {
     let a = 2 * m;
     let b = 4 * m;
-    EqBits::build(point, &mut s[a..b]);
+    EqBits::build(point, gf128::ONE, &mut s[a..b]);
     multilinear::dot(&s[0..a], &s[a..b])
 }
 
@@ -98,7 +98,7 @@ fn public_value(s: &mut [u64], low: &[u64], m: usize) -> Gf128
     let a = 2 * m;
     let b = 3 * m;
     let e = 4 * m;
-    EqBits::build(low, &mut s[b..e]);
+    EqBits::build(low, gf128::ONE, &mut s[b..e]);
     multilinear::dot(&s[a..b], &s[b..e])
 }
 

@@ -34,7 +34,7 @@ returns c =
     let b = c .before .before .before .before .before .before .before .before .before .before .before .before .before .before .before in
     let s = b .before .before .before .before .before .before in
     let built = b .build .ensures .1 ∙ eq-built _ _ (s .pre .1 .1) in
-    let same : length (b .build .last .1 .0) ≡ length (now (s .args .s)) = search needs in (
+    let same : length (b .build .last .1 .1 .0) ≡ length (now (s .args .s)) = search needs in (
       cleared-raised _ (now (s .args .out)) _ _ (s .pre .1 .0) (search needs) (c .before .before .before .before .before .before .before .before
           .before .before .before .clear .ensures) (rw (built, elements-words) at (c .before .before .before .before .before .before .add-logins
           .ensures)) (λ i. omega (arith, c .before .before .before .before .slice-known5 .given i)),

@@ -2,7 +2,7 @@
 -- Assumes nothing.
 use native.Mathlib.Omega.{arith}
 use denote.Ref.{now}
-use Rattle.magnetar_batch.proofs.TableWalk.{behind-some, behind-none}
+use Rattle.magnetar_batch.proofs.TableWalk.{cleared-behind-some, cleared-behind-none}
 use borrow.Author.Needs.{needs}
 use Rattle.magnetar_batch.proofs.table.clear_behind.Statement.{statement}
 use Rattle.magnetar_batch.proofs.table.clear_behind.Tie as tie
@@ -41,19 +41,19 @@ returns : tie.Need-returns
 returns c =
     let x = (c .before .before .before .before .before .before .before .before) .args in
     let k = c .before .before .before .before .before .before .larger in
-    behind-some (x .m) (k .result) _ (now (x .s)) _ (k .ensures) (omega arith) (c .before .before .clear .ensures)
+    cleared-behind-some (x .m) (k .result) _ (now (x .s)) _ (k .ensures) (omega arith) (c .before .before .clear .ensures)
 
 returns-2 : tie.Need-returns-2
 returns-2 c =
     let x = (c .before .before .before .before) .args in
     let k = c .before .before .larger in
-    behind-none (x .m) (k .result) _ (now (x .s)) (k .ensures) (omega arith)
+    cleared-behind-none (x .m) (k .result) _ (now (x .s)) (k .ensures) (omega arith)
 
 returns-3 : tie.Need-returns-3
 returns-3 c =
     let x = (c .before .before .before) .args in
     let k = c .before .larger in
-    behind-none (x .m) (k .result) _ (now (x .s)) (k .ensures) (omega arith)
+    cleared-behind-none (x .m) (k .result) _ (now (x .s)) (k .ensures) (omega arith)
 
 pub clear-behind-spec : {M : Type 1} → statement M
 clear-behind-spec =

@@ -26,29 +26,29 @@ least-requires c κs = search needs
 mul-a : tie.Need-mul-a
 mul-a c = search needs
 
-sub-eq-build-scaled : tie.Need-sub-eq-build-scaled
-sub-eq-build-scaled c = search needs
+sub-build : tie.Need-sub-build
+sub-build c = search needs
 
-part-eq-build-scaled-start : tie.Need-part-eq-build-scaled-start
-part-eq-build-scaled-start c = search needs
+part-build-start : tie.Need-part-build-start
+part-build-start c = search needs
 
-part-eq-build-scaled-end : tie.Need-part-eq-build-scaled-end
-part-eq-build-scaled-end c = search needs
+part-build-end : tie.Need-part-build-end
+part-build-end c = search needs
 
-mul-eq-build-scaled : tie.Need-mul-eq-build-scaled
-mul-eq-build-scaled c = search needs
+mul-build : tie.Need-mul-build
+mul-build c = search needs
 
-sub-eq-build-scaled-2 : tie.Need-sub-eq-build-scaled-2
-sub-eq-build-scaled-2 c = search needs
+sub-build-2 : tie.Need-sub-build-2
+sub-build-2 c = search needs
 
-part-eq-build-scaled-start-2 : tie.Need-part-eq-build-scaled-start-2
-part-eq-build-scaled-start-2 c = search needs
+part-build-start-2 : tie.Need-part-build-start-2
+part-build-start-2 c = search needs
 
-part-eq-build-scaled-end-2 : tie.Need-part-eq-build-scaled-end-2
-part-eq-build-scaled-end-2 c = search needs
+part-build-end-2 : tie.Need-part-build-end-2
+part-build-end-2 c = search needs
 
-eq-build-scaled-requires : tie.Need-eq-build-scaled-requires
-eq-build-scaled-requires c κs = search needs
+build-requires : tie.Need-build-requires
+build-requires c κs = search needs
 
 same-length : tie.Need-same-length
 same-length c = search needs
@@ -59,7 +59,7 @@ returns c =
     let l = c .before .before .before .before .before .before .before .least in
     let j = c .before .before .before .before .before .before .before .before .log2 in
     let v = c .before .before .before .before .before .before .before .before .before .get in
-    let e = c .before .before .eq-build-scaled .ensures .1 in
+    let e = c .before .before .build .ensures .1 in
     eq-behind-read (x .m) (x .n) (l .result) (j .result) (value (v .result)) (x .k) (x .t4) (x .t6) (now (x .s)) _
     (omega arith) (l .ensures .0) (j .ensures .0) (v .ensures) e
 
@@ -76,14 +76,14 @@ eq-behind-spec =
     mul-least
     least-requires
     mul-a
-    sub-eq-build-scaled
-    part-eq-build-scaled-start
-    part-eq-build-scaled-end
-    mul-eq-build-scaled
-    sub-eq-build-scaled-2
-    part-eq-build-scaled-start-2
-    part-eq-build-scaled-end-2
-    eq-build-scaled-requires
+    sub-build
+    part-build-start
+    part-build-end
+    mul-build
+    sub-build-2
+    part-build-start-2
+    part-build-end-2
+    build-requires
     same-length
     returns
     returns-2)

@@ -2,7 +2,7 @@
 -- Assumes nothing.
 use native.Mathlib.Omega.{arith}
 use denote.Ref.{now}
-use Rattle.magnetar_check.proofs.RowWalk.{behind-some, behind-none}
+use Rattle.magnetar_relation.proofs.StepLaws.{behind-some, behind-none}
 use borrow.Author.Needs.{needs}
 use Rattle.magnetar_check.proofs.check.add_behind.Statement.{statement}
 use Rattle.magnetar_check.proofs.check.add_behind.Tie as tie

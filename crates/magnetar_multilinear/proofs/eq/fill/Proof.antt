@@ -11,7 +11,7 @@ use lib.Pow.{pow-pos}
 use denote.Ref.{now}
 use Rattle.magnetar_field.specs.Gf128.{value}
 use Rattle.magnetar_field.specs.Words.{elements}
-use Rattle.magnetar_multilinear.specs.EqTable.{scaledTable}
+use Rattle.magnetar_multilinear.specs.EqTable.{eqTableFrom}
 use Rattle.magnetar_field.proofs.Elements.{elements-length, elements-stored}
 use Rattle.magnetar_multilinear.proofs.Filling.{Filled, room, filled-start, filled-more, filled-end}
 use borrow.Author.Needs.{needs}
@@ -28,12 +28,12 @@ enough : (c : tie.In-loop Inv-loop μ-loop)
     → 2 * c .before .loop .m ≤ 2 ^ c .before .before .before .before .before .before .before .before .args .n
 enough c = let l = c .before .loop in room _ (l .m) (l .j) (c .loop-test .taken) (l .inv .0) (l .inv .2 .size)
 
--- the first entry is c
-first : (c : tie.After-put Inv-loop μ-loop) → getD (elements (c .put .last .0)) 0 0 ≡ value (c .before .before .before .before .args .c)
+-- the first entry is the start
+first : (c : tie.After-put Inv-loop μ-loop) → getD (elements (c .put .last .0)) 0 0 ≡ value (c .before .before .before .before .args .start)
 first c =
     let x = c .before .before .before .before .args in
     ap (λ (l : List ℕ). getD l 0 0) (ap elements (c .put .ensures) ∙ elements-stored _ _ _) ∙ getD-set-same (elements (now (x .out))) 0 (value (x
-    .c)) 0 (rw elements-length (omega (arith, pow-pos (x .n))))
+    .start)) 0 (rw elements-length (omega (arith, pow-pos (x .n))))
 
 put-requires : tie.Need-put-requires Inv-loop μ-loop
 put-requires c κs = search needs
@@ -44,7 +44,7 @@ loop-holds c =
     let k = first (c .before .before) in (
       search needs,
       search needs,
-      rw k (filled-start _ _ _ (elements (now (x .out))) _ (digits-lt {q = x .c .hi} {m = 2 ^ 64} {r = x .c .lo} {c = 2 ^
+      rw k (filled-start _ _ _ (elements (now (x .out))) _ (digits-lt {q = x .start .hi} {m = 2 ^ 64} {r = x .start .lo} {c = 2 ^
           64} (search needs) (search needs)) (ap elements (c .before .before .put .ensures) ∙ elements-stored _ _ _) (rw elements-length (omega arith))
           (rw elements-length (omega (arith, pow-pos (x .n))))),
     )
@@ -78,7 +78,7 @@ same-length c = search needs
 returns : tie.Need-returns Inv-loop μ-loop
 returns c =
     let x = c .before .before .before .before .before .before .before .before .args in
-    filled-end _ _ _ _ _ _ (rw elements-length (omega arith)) (c .loop-test .left) (c .before .loop .inv .2) ∙ ap (λ (n : ℕ). scaledTable n (elements
+    filled-end _ _ _ _ _ _ (rw elements-length (omega arith)) (c .loop-test .left) (c .before .loop .inv .2) ∙ ap (λ (n : ℕ). eqTableFrom n (elements
     (now (x .point)))) (first (c .before .before .before .before))
 
 pub fill-spec : {M : Type 1} → statement M

@@ -44,7 +44,7 @@ same-length c = search needs
 
 returns : tie.Need-returns
 returns c = let x = c .before .before .before .before .before .before .before .args in
-    eq-table-placed (now (x .draws)) (now (x .s)) (c .before .before .build .last .1 .0) (x .o) (x .x) (x .w) (omega arith) (omega arith) (omega arith) (c
+    eq-table-placed (now (x .draws)) (now (x .s)) (c .before .before .build .last .1 .1 .0) (x .o) (x .x) (x .w) (omega arith) (omega arith) (omega arith) (c
     .before .before .before .before .before .before .before .pre .1) (c .before .before .build .ensures .1)
 
 pub begin-table-spec : {M : Type 1} → statement M

@@ -75,8 +75,8 @@ returns c =
     let h : 2 * x .w + 2 * n ≤ length (now (x .s)) = omega (arith, s .pre .1 .most) in
     let point = local-point (x .w) n (g .result) (now (x .draws)) (now (x .s)) (g .ensures .0) (s .pre .1) (omega (arith, s .pre .1 .most)) in
     let built = b .build .ensures .1 ∙ eq-built _ _ point in (
-      c .segment-dot .ensures ∙ segment-sum (x .w) n (g .result) (x .i) (now (x .lens)) (now (x .draws)) (now (x .s)) (b .build .last .1 .0) (g .ensures .0) refl (s .pre .1) h built,
-      columns-kept (x .w) n (g .result) (x .i) (now (x .lens)) (now (x .draws)) (now (x .s)) (b .build .last .1 .0) (g .ensures .0) refl (s .pre .1) h built,
+      c .segment-dot .ensures ∙ segment-sum (x .w) n (g .result) (x .i) (now (x .lens)) (now (x .draws)) (now (x .s)) (b .build .last .1 .1 .0) (g .ensures .0) refl (s .pre .1) h built,
+      columns-kept (x .w) n (g .result) (x .i) (now (x .lens)) (now (x .draws)) (now (x .s)) (b .build .last .1 .1 .0) (g .ensures .0) refl (s .pre .1) h built,
     )
 
 pub segment-value-spec : {M : Type 1} → statement M

@@ -57,14 +57,14 @@ returns c =
     let s = f .before .before .before .before .before .before .before .before .before in
     let x = s .args in
     let room = s .pre .1 .0 .2 in
-    let front = f .build .kept .1 .0 ∙ length-take-le _ _ room in
+    let front = f .build .kept .1 .1 .0 ∙ length-take-le _ _ room in
     let first = f .build .ensures .1 ∙ eq-built _ _ (s .pre .1 .1 .0) in
-    let second = g .build2 .ensures .1 ∙ ap (λ (l : List ℕ). eqOut (now (x .c)) l) (behind (f .build .last .1 .0) (now (x .s)) (2 * x .n) room front) ∙ eq-built _ _ (s .pre .1 .1 .1) in
-    let p = both-parts (f .build .last .1 .0) (now (x .s)) (2 * x .n) room front (g .build2 .last .1 .0) in (
+    let second = g .build2 .ensures .1 ∙ ap (λ (l : List ℕ). eqOut (now (x .c)) 1 l) (behind (f .build .last .1 .1 .0) (now (x .s)) (2 * x .n) room front) ∙ eq-built _ _ (s .pre .1 .1 .1) in
+    let p = both-parts (f .build .last .1 .1 .0) (now (x .s)) (2 * x .n) room front (g .build2 .last .1 .1 .0) in (
       rw (c .before .before .before .before .sum-products .ensures, p, first, second, elements-append),
       rw (
         c .before .before .clear .ensures,
-        both-length (f .build .last .1 .0) (now (x .s)) (2 * x .n) room front (g .build2 .last .1 .0) (g .build2 .kept .1 .0),
+        both-length (f .build .last .1 .1 .0) (now (x .s)) (2 * x .n) room front (g .build2 .last .1 .1 .0) (g .build2 .kept .1 .1 .0),
       ),
     )
 

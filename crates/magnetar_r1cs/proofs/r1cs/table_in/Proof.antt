@@ -30,7 +30,7 @@ returns : tie.Need-returns
 returns c =
     let b = c .before .before .before .before .before .before .before .before .before .before .before in
     let built = b .build .ensures .1 ∙ eq-built _ _ (b .before .before .before .before .before .before .before .before .before .pre .1 .1) in
-    let same : length (b .build .last .1 .0) ≡ length (now (c .before .before .before .before .before .before .before .before .before .before .before
+    let same : length (b .build .last .1 .1 .0) ≡ length (now (c .before .before .before .before .before .before .before .before .before .before .before
     .before .before .before .before .before .before .before .before .before .args .s)) = search needs in
     (c .before .before .before .before .before .before .product .ensures ∙ rw (built, elements-words), c .before .before .clear .ensures ∙ ap (λ (n : ℕ). replicate n 0) same)
 

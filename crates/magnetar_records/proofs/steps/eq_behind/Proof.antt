@@ -2,7 +2,7 @@
 -- Assumes nothing.
 use native.Mathlib.Omega.{arith}
 use denote.Ref.{now}
-use Rattle.magnetar_relation.proofs.StepLaws.{built-behind, built-none}
+use Rattle.magnetar_relation.proofs.StepLaws.{behind-some, behind-none}
 use borrow.Author.Needs.{needs}
 use Rattle.magnetar_records.proofs.steps.eq_behind.Statement.{statement}
 use Rattle.magnetar_records.proofs.steps.eq_behind.Tie as tie
@@ -29,12 +29,12 @@ same-length : tie.Need-same-length
 same-length c = search needs
 
 returns : tie.Need-returns
-returns c = built-behind _ _ _ _ (omega arith) (c .before .before .eq-front .ensures)
+returns c = behind-some _ _ _ _ (omega arith) (c .before .before .eq-front .ensures)
 
 returns-2 : tie.Need-returns-2
 returns-2 c =
     let x = c .before .before .before .args in
-    built-none (x .n) (now (x .point)) (now (x .s)) (omega arith)
+    behind-none (x .n) _ (now (x .s)) (omega arith)
 
 pub eq-behind-spec : {M : Type 1} → statement M
 eq-behind-spec =

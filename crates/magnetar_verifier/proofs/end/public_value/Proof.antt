@@ -70,8 +70,8 @@ returns c =
     let x = a .args in
     let post = postOf (3 * x .m) (4 * x .m - 3 * x .m) (now (x .s)) in (
       c .dot .ensures
-          ∙ half-is (x .m) (now (x .s)) (now (x .low)) (u .build .last .1 .0) post (a .pre .0) (a .pre .1 .0) (a .pre .1 .1) (u .build .ensures .1),
-      half-kept (x .m) (now (x .s)) (now (x .low)) (u .build .last .1 .0) post (a .pre .0) (a .pre .1 .0),
+          ∙ half-is (x .m) (now (x .s)) (now (x .low)) (u .build .last .1 .1 .0) post (a .pre .0) (a .pre .1 .0) (a .pre .1 .1) (u .build .ensures .1),
+      half-kept (x .m) (now (x .s)) (now (x .low)) (u .build .last .1 .1 .0) post (a .pre .0) (a .pre .1 .0),
     )
 
 pub public-value-spec : {M : Type 1} → statement M

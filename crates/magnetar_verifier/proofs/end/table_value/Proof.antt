@@ -62,7 +62,7 @@ returns c =
     let t = c .before .before .before in
     let u = t .before .before .before in
     let x = u .before .before .before .before .args in
-    c .dot .ensures ∙ table-is (x .m) (now (x .s)) (now (x .point)) (u .build .last .1 .0) (postOf (2 * x .m) (4 * x .m - 2 * x .m) (now (x .s)))
+    c .dot .ensures ∙ table-is (x .m) (now (x .s)) (now (x .point)) (u .build .last .1 .1 .0) (postOf (2 * x .m) (4 * x .m - 2 * x .m) (now (x .s)))
     (u .before .before .before .before .pre .0) (u .before .before .before .before .pre .1 .0) (u .before .before .before .before .pre .1 .1) (u .build .ensures .1)
 
 pub table-value-spec : {M : Type 1} → statement M
