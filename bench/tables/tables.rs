@@ -1,4 +1,4 @@
-//! Times the rounds of the sum-checks beside the Rust's, on the same tables in one run, and compares what they give.
+//! Times the rounds of the sum-checks and eq tables beside the Rust's, on the same tables in one run, and compares what they give.
 //! One thread; the shortest of some turns, the two sides in turn.
 #[allow(dead_code)]
 #[path = "../../compare/src/random.rs"]
@@ -10,7 +10,8 @@ mod sys;
 #[path = "../../compare/src/text.rs"]
 mod text;
 
-use magnetar_field::{Gf128, ONE, ZERO};
+use magnetar_field::eq::{eq_build_fused, EqBits};
+use magnetar_field::{mul, Gf128, ONE, ZERO};
 use magnetar_sumcheck::public::{EqFactor, PublicFactor, TableFactor};
 use magnetar_sumcheck::{BindOrder, SumcheckProver, SumcheckSpec, Term};
 use std::time::{Duration, Instant};
@@ -37,6 +38,10 @@ fn bind(table: &mut [u64], v: usize, r: Gf128) {
     assert_eq!(unsafe { sys::magnetar_bind_var(table.as_mut_ptr(), table.len(), v, element(r)) }, 0);
 }
 
+fn eq_build(point: &[u64], start: Gf128, out: &mut [u64]) -> u32 {
+    unsafe { sys::magnetar_eq_build(point.as_ptr(), point.len(), element(start), out.as_mut_ptr(), out.len()) }
+}
+
 fn line(what: &str, n: usize, times: [Duration; 4]) {
     let [message, their_message, fold, their_fold] = times.map(|d| d.as_secs_f64() * 1e3);
     println!(
@@ -54,7 +59,7 @@ fn outer(what: &str, n: usize, v: usize, order: BindOrder, turns: usize) {
     let ours: Vec<Vec<u64>> = tables.iter().map(|t| words(t)).collect();
     let point = words(&rest);
     let mut e = vec![0u64; 1 << n];
-    assert_eq!(unsafe { sys::magnetar_eq_build(point.as_ptr(), point.len(), e.as_mut_ptr(), e.len()) }, 0);
+    assert_eq!(eq_build(&point, ONE, &mut e), 0);
     // the next round binds the variable that is then the highest, or the lowest
     let next = if v == 0 { 0 } else { n - 2 };
     let terms = [
@@ -131,6 +136,32 @@ fn inner(n: usize, turns: usize) {
     line("inner, variable 0", n, best);
 }
 
+/// The eq table of n elements from `start`, its words allocated within the time. The Rust's begin with 1: a product of each entry with any
+/// other start comes after them.
+fn eq_table(what: &str, n: usize, start: Gf128, turns: usize) {
+    let point = random(n, 11);
+    let given = words(&point);
+    let times = |mut table: Vec<Gf128>| {
+        if start != ONE {
+            table.iter_mut().for_each(|e| *e = mul(*e, start));
+        }
+        table
+    };
+    let mut best = [Duration::MAX; 3];
+    for _ in 0..turns {
+        let (code, mine) = timed(&mut best[0], || {
+            let mut out = vec![0u64; 2 << n];
+            (eq_build(&given, start, &mut out), out)
+        });
+        let built = timed(&mut best[1], || times(EqBits::build(&point).values));
+        let fused = timed(&mut best[2], || times(eq_build_fused(&point)));
+        assert_eq!(code, 0);
+        assert!(mine == words(&built) && mine == words(&fused), "the eq tables differ");
+    }
+    let [mine, built, fused] = best.map(|d| d.as_secs_f64() * 1e3);
+    println!("| {what} | {n} | {mine:.2} ms | {built:.2} ms | {:.1} | {fused:.2} ms | {:.1} |", mine / built, mine / fused);
+}
+
 /// A chain of products, none of which can be left out or run beside another.
 fn products(n: u64, turns: usize) {
     let mut best = [Duration::MAX; 2];
@@ -147,7 +178,7 @@ fn products(n: u64, turns: usize) {
         let theirs = timed(&mut best[1], || {
             let (mut x, mut y) = (a, b);
             for i in 0..n {
-                x = magnetar_field::mul(x, y);
+                x = mul(x, y);
                 y.0 ^= i as u128;
             }
             x
@@ -167,4 +198,8 @@ fn main() {
         outer("outer, variable 0", n, 0, BindOrder::Increasing, turns);
         inner(n, turns);
     }
+    println!("\n| eq table | elements | time | the Rust's `EqBits::build` | ratio | its `eq_build_fused` | ratio |");
+    println!("|---|---|---|---|---|---|---|");
+    eq_table("from 1", 16, ONE, 50);
+    eq_table("from another element", 16, random(1, 12)[0], 50);
 }

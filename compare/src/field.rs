@@ -4,7 +4,7 @@ use crate::sheet::Sheet;
 use crate::tally::By::{Document, Rust};
 use crate::text::*;
 use magnetar_field::eq::{eq_build_fused, eq_char2, eq_table, EqBits};
-use magnetar_field::gf128::{inv, is_bit, mul, mul_bit, pow, square, Gf128};
+use magnetar_field::gf128::{inv, is_bit, mul, mul_bit, pow, square, Gf128, ONE, ZERO};
 use magnetar_field::multilinear::{bind_var, eval_mle, fold_pairs};
 
 fn one(e: Gf128) -> Vec<String> {
@@ -36,21 +36,23 @@ fn power(sheet: &mut Sheet, a: Gf128, k: u128) {
     sheet.ask("gf128::pow", Rust, format!("pow {} {:#x} {:#x}", elements(&[a]), words[0], words[1]), one(pow(a, k)));
 }
 
-/// The table with `lent` words, which may be too few.
-fn table(sheet: &mut Sheet, point: &[Gf128], lent: usize) {
+/// The table from an element with `lent` words, which may be too few. The Rust's begins with 1: each of its entries times the element.
+fn table(sheet: &mut Sheet, point: &[Gf128], start: Gf128, lent: usize) {
     let need = 2usize << point.len();
-    let query = format!("eqroom {lent} {}", elements(point));
+    let query = format!("eqroom {lent} {} {}", elements(point), elements(&[start]));
     if lent < need {
         sheet.ask("EqBits::build", Document, query, vec![code(15, &marked(&[], lent))]);
     } else {
-        let found = words(&EqBits::build(point).values);
-        sheet.ask("EqBits::build", Rust, query, vec![code(0, &marked(&found, lent))]);
+        let found: Vec<_> = EqBits::build(point).values.iter().map(|&e| mul(e, start)).collect();
+        sheet.ask("EqBits::build", Rust, query, vec![code(0, &marked(&words(&found), lent))]);
     }
 }
 
-fn tables(sheet: &mut Sheet, point: &[Gf128], bits: &[bool]) {
+fn tables(sheet: &mut Sheet, point: &[Gf128], starts: &[Gf128], bits: &[bool]) {
     let need = 2usize << point.len();
-    table(sheet, point, need);
+    for &start in starts {
+        table(sheet, point, start, need);
+    }
     sheet.ask("eq::eq_build_fused", Rust, format!("fused {}", elements(point)), vec![format!("= {}", elements(&eq_build_fused(point)))]);
     let as_words: Vec<u64> = bits.iter().map(|&b| b as u64).collect();
     let query = format!("eqat {} {}", elements(point), list(&as_words));
@@ -106,11 +108,13 @@ pub fn exhaustive(sheet: &mut Sheet) {
         singles(sheet, Gf128(a));
     }
     let special = [Gf128(0), Gf128(1), Gf128(2), Gf128(1 << 127)];
+    let r = &mut Random(14);
     for n in 0..=4u32 {
         for k in 0..4usize.pow(n) {
             let point: Vec<_> = (0..n).map(|j| special[k >> (2 * j) & 3]).collect();
             let bits: Vec<_> = (0..n).map(|j| k >> j & 1 == 1).collect();
-            tables(sheet, &point, &bits);
+            let starts = [ZERO, ONE, Gf128(2), Gf128(1 << 127), Gf128(u128::MAX), Gf128(r.wide())];
+            tables(sheet, &point, &starts, &bits);
         }
     }
     // every number of lent words around each table
@@ -118,7 +122,9 @@ pub fn exhaustive(sheet: &mut Sheet) {
         let point = vec![Gf128(3); n];
         let need = 2usize << n;
         for lent in 0..=need + 3 {
-            table(sheet, &point, lent);
+            for start in [ONE, ZERO, Gf128(1 << 127), Gf128(r.wide())] {
+                table(sheet, &point, start, lent);
+            }
             evaluation(sheet, &vec![Gf128(5); 1 << n], &point, lent);
         }
     }
@@ -127,7 +133,10 @@ pub fn exhaustive(sheet: &mut Sheet) {
         let point = vec![7u64; count];
         for lent in [0, 4, 16] {
             let n = if count % 2 == 1 || count > 40 { 11 } else if lent < 2usize << (count / 2) { 15 } else { continue };
-            sheet.ask("EqBits::build", Document, format!("eqroom {lent} {}", list(&point)), vec![code(n, &marked(&[], lent))]);
+            for start in [ONE, ZERO, Gf128(r.wide())] {
+                let query = format!("eqroom {lent} {} {}", list(&point), elements(&[start]));
+                sheet.ask("EqBits::build", Document, query, vec![code(n, &marked(&[], lent))]);
+            }
         }
         for var in [0, 1, 2, 5, 64, usize::MAX] {
             let good = count % 2 == 0 && (count / 2).is_power_of_two() && var < (count / 2).trailing_zeros() as usize;
@@ -161,9 +170,11 @@ pub fn random(sheet: &mut Sheet, r: &mut Random) {
     let n = r.below(9);
     let point = r.elements(n);
     let bits: Vec<_> = (0..n).map(|_| r.one_in(2)).collect();
-    tables(sheet, &point, &bits);
+    let start = r.element();
+    tables(sheet, &point, &[ONE, start], &bits);
     let extra = r.below(4);
-    table(sheet, &point, (2 << n) + extra);
+    table(sheet, &point, start, (2 << n) + extra);
+    table(sheet, &point, start, (2 << n) - 1 - r.below(2));
     let values = r.elements(1 << n);
     evaluation(sheet, &values, &point, (2 << n) + extra);
     evaluation(sheet, &values, &point, (2 << n) - 1 - r.below(2));

@@ -42,10 +42,11 @@ pub fn prove(r: &Relation, t: &State, proof: usize, claims: usize, scratch: usiz
     Outcome { code: a.code, transcript: back(a.transcript), proof, claims, scratch }
 }
 
-pub fn eq_table(point: &[u64], lent: usize) -> (u32, Vec<u64>) {
+pub fn eq_table(point: &[u64], start: [u64; 2], lent: usize) -> (u32, Vec<u64>) {
     let mut out = vec![MARK; lent];
+    let start = sys::Element { lo: start[0], hi: start[1] };
     // SAFETY: here and below each pointer and length are of one slice, and what is written is borrowed as `&mut`.
-    let code = unsafe { sys::magnetar_eq_build(point.as_ptr(), point.len(), out.as_mut_ptr(), out.len()) };
+    let code = unsafe { sys::magnetar_eq_build(point.as_ptr(), point.len(), start, out.as_mut_ptr(), out.len()) };
     (code, out)
 }
 

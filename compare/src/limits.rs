@@ -6,7 +6,7 @@ use crate::relation::{self, Entries, Relation};
 use crate::runs;
 use crate::rust::State;
 use crate::tally::{By, Tally};
-use crate::text::{marked, words};
+use crate::text::{elements, marked, words};
 use magnetar_field::multilinear::bind_var;
 use magnetar_field::{eq_build_fused, mul, Gf128, ONE, ZERO};
 use magnetar_sumcheck::{BindOrder, EqFactor, PublicFactor, SumcheckProver, SumcheckSpec, TableFactor, Term};
@@ -19,11 +19,23 @@ fn plain(r: &mut Random, n: usize) -> Vec<Gf128> {
 pub fn tables(tally: &mut Tally) {
     let r = &mut Random(15);
     let point = plain(r, 20);
-    let found = words(&eq_build_fused(&point));
-    let here = library::eq_table(&words(&point), found.len() + 1);
+    let table = eq_build_fused(&point);
+    let found = words(&table);
+    let here = library::eq_table(&words(&point), [1, 0], found.len() + 1);
     tally.compared("eq::eq_build_fused", By::Rust, here == (0, marked(&found, found.len() + 1)), || "the table of 20 elements".into());
-    let here = library::eq_table(&words(&plain(r, 21)), 4);
+    let here = library::eq_table(&words(&plain(r, 21)), [1, 0], 4);
     tally.compared("eq::eq_build_fused", By::Document, here == (11, marked(&[], 4)), || "a point of 21 elements".into());
+    // drawn from a seed of its own: what is drawn below stays
+    for start in [ZERO, Gf128(1 << 127), Gf128(Random(18).wide())] {
+        let found = words(&table.iter().map(|&e| mul(e, start)).collect::<Vec<_>>());
+        let w = words(&[start]);
+        let here = library::eq_table(&words(&point), [w[0], w[1]], found.len() + 1);
+        let shown = || format!("the table of 20 elements from {}", elements(&[start]));
+        tally.compared("EqBits::build", By::Rust, here == (0, marked(&found, found.len() + 1)), shown);
+        let here = library::eq_table(&words(&point), [w[0], w[1]], found.len() - 1);
+        let shown = || format!("the table of 20 elements from {}, a word short", elements(&[start]));
+        tally.compared("EqBits::build", By::Document, here == (15, marked(&[], found.len() - 1)), shown);
+    }
     for var in [0, 10, 19] {
         let table = plain(r, 1 << 20);
         let x = r.element();
