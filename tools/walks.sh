@@ -121,6 +121,18 @@ thin combo_records::fill --final '(cc, cc)'
 thin combo_records::fill_unless --final '(refl, rw (← e1, b1) (e2 .0), rw (← e1, b1) (e2 .1))' --final '(refl, rw (← e1, b1) refl, rw (← e1, b1) refl)'
 thin combo_records::build_m_combo --use "$ends.ComboEnds.{combo-by, combo-ends}" --use "$entries" --use "$over" --use 'mathlib.Core.List.{[]}' \
   --final 'let R = rulesOver n3 1 [] n4 (entriesOfRecords (s5 .now)) in combo-ends R (s6 .now) (s7 .now) (s8 .now) ys1 ys2 r2 (combo-by R (s6 .now) (s7 .now) (s8 .now) _ _ r1 r2 e1 e2) r3 (ws3 .1 .0) (ws3 .1 .1 .0) e3'
+# and its value at one column point
+over1=$ends.ValueOver
+thin eval_records::matrix_value --use "$over1.{matrix-over}" --use "$entries" --use 'Rattle.magnetar_field.specs.Gf128.{value}' \
+  --final 'matrix-over n3 n4 n5 n6 n7 n8 (entriesOfRecords (s1 .now)) ys2 (ws1 .1 .0) (ws2 .1 .1 .1 .1 .1 .0) (ws3 .1 .1 .0) (value r3) e1 e2 e3'
+thin eval_records::system_value --use "$over1.{system-over}" --use "$entries" --use 'Rattle.magnetar_field.specs.Gf128.{value}' \
+  --final 'system-over n3 n4 n5 n6 n7 n8 n9 n10 n11 n12 (entriesOfRecords (s1 .now)) ys2 (ws1 .1 .0) (ws2 .1 .0) (ws3 .1 .0) (value r1) (value r2) (value r3) (value r4) e1 e2 e3 e4'
+thin eval_records::six_value --use "$over1.{six-over}" --use "$entries" --use "$long" --use 'Rattle.magnetar_field.specs.Gf128.{value}' \
+  --final 'let o = six-over n2 n3 (entriesOfRecords (s8 .now)) _ (records-length (s8 .now)) n4 n5 n6 n7 r1 e1 r2 e2 ys1 (ws3 .0) (ws4 .1 .0) (ws5 .1 .0) (ws6 .0) (value r4) (value r5) (value r7) e3 e4 e5 e6 e7 in (e8 ∙ o .0, o .1)'
+thin eval_records::words_unless --final '(rw (← e1, b1) (e3 .0), rw (← e1, b1) (e3 .1))' --final '(rw (← e1, b1) e2, rw (← e1, b1) refl)'
+thin eval_records::eval_m_combo --use "$ends.ValueEnds.{value-by, value-ends}" --use "$entries" --use "$over" --use "$long" --use 'mathlib.Core.List.{[]}' \
+  --use 'Rattle.magnetar_layout.specs.Tests.{firstRefusal}' --use 'Rattle.magnetar_relation.specs.RuleTests.{ruleTestsBy}' --use 'Rattle.magnetar_field.specs.Words.{elements}' --use 'lib.ListN.{getD}' \
+  --final 'let R = rulesOver n3 1 [] n4 (entriesOfRecords (s9 .now)) in rw (e4 .0, e4 .1) (value-ends n1 R n5 n6 n7 n8 ys2 r2 (value-by n1 R (length ys2) r1 r2 (e1 ∙ ap (λ (k : ℕ). firstRefusal 0 (ruleTestsBy n3 1 n4 (k ∷ k ∷ k ∷ k ∷ []) true)) (sym (records-length (s9 .now)))) (e2 .0)) (e2 .1) (e2 .2) (getD (elements r3) 0 0) (ws3 .1 .0) e3)'
 
 # magnetar_forms: locals lent to the thin functions
 crate magnetar_forms
@@ -135,8 +147,10 @@ crate magnetar_spartan
 over='--use Rattle.magnetar_relation.specs.Rules.{rulesOver} --use Rattle.magnetar_records.specs.Records.{entriesOfRecords}'
 thin records::combine_at --final 'e4 ∙ rw (e1, e2, e3)'
 thin records::combine_unless --final 'rw (← e1, b1) e2' --final 'rw (← e1, b1) refl'
-thin records::verify_with --use "$ends.VerifyEnds.{verify-ends}" $over \
-  --final 'λ h. verify-ends (rulesOver n4 n5 (s6 .now) n7 (entriesOfRecords (s8 .now))) (s9 .now) (s10 .now) n11 ys2 ys3 n1 r1 h e1 r6 (ws6 .1 .0) (ws6 .1 .1 .0) r2 (ws5 .1 .0) e2 (rw (← e3, ← e4) e5) e6'
+thin records::value_at --final '(ap value (refl) ∙ ap (λ (o : CombinedAt). o .value) e5 ∙ rw (e1, e2, e3, e4), ap (λ (o : CombinedAt). o .scratch) e5 ∙ rw (e1, e2, e3, e4))' \
+  --use 'Rattle.magnetar_batch.specs.Value.{CombinedAt}' --use 'Rattle.magnetar_field.specs.Gf128.{value}'
+thin records::verify_with --use "$ends.VerifyEnds.{verify-ends}" --use 'Rattle.magnetar_field.specs.Gf128.{value}' $over \
+  --final 'λ h. verify-ends (rulesOver n4 n5 (s6 .now) n7 (entriesOfRecords (s8 .now))) (s9 .now) (s10 .now) n11 ys2 ys3 n1 r1 h e1 r2 (value r5) (value r6) (ws5 .1 .0) (ws6 .1 .0) (ws7 .1 .0) r8 (ws8 .1 .0) (record { begun = e2; table = rw (← e3, ← e4) e5; half = rw (← e3, ← e4) (e6 .0, e6 .1); room = e7; ended = e8 .0 }) (e6 .2) (e8 .1)'
 thin records::verify_virtual_spartan $free $over \
   --final 'e2 (e1 ∙ ap (firstRefusal 0) (over-free n4 n5 (s6 .now) n7 (entriesOfRecords (s8 .now))))'
 # the prover
@@ -155,7 +169,7 @@ thin records::prove_virtual_spartan $free --use "$ends.ProveRun.{number}" $over 
 
 # magnetar_cases: the first records of an array, and a transcript, lent to the entries over records
 crate magnetar_cases
-for g in masks combo check; do thin lent::$g --part '(e1 .1)' --final 'rw (← (e1 .0)) e2'; done
+for g in masks combo value check; do thin lent::$g --part '(e1 .1)' --final 'rw (← (e1 .0)) e2'; done
 thin digests::lent --part '(e1 .1)' --final 'rw (← (e1 .0)) e2'
 for g in verify prove; do thin lent::$g --part '(e1 .1)' --final 'rw (← (e1 .0), e3 .0, e3 .1) (e2 .0)'; done
 

@@ -78,7 +78,7 @@ three-at m al k p t u y w l h =
     )
 
 -- ---- six of them
-dot-six : (al : List ℕ) (a b c d e f : ℕ) → length al ≡ 6
+pub dot-six : (al : List ℕ) (a b c d e f : ℕ) → length al ≡ 6
     → dot al (a ∷ b ∷ c ∷ d ∷ e ∷ f ∷ [])
     ≡ getD al 0 0 ⊗ a ⊕ (getD al 1 0 ⊗ b ⊕ (getD al 2 0 ⊗ c ⊕ (getD al 3 0 ⊗ d ⊕ (getD al 4 0 ⊗ e ⊕ (getD al 5 0 ⊗ f ⊕ 0)))))
 unfolding dot

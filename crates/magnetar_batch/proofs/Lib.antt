@@ -2,9 +2,12 @@ pub mod Rooms
 pub mod Selected
 pub mod Folds
 pub mod TableWalk
+pub mod ValueWalk
 pub mod ColumnLaws
 pub mod ComboEnds
+pub mod ValueEnds
 pub mod ComboWalk
+pub mod ValueOver
 pub mod EachNNNNMI
 pub mod Halves
 pub mod MarkedRows

@@ -50,7 +50,7 @@ elements-take (suc k) (x ∷ []) = rw two-suc (one (2 * k))
     one n = refl
 elements-take (suc k) (x ∷ (y ∷ s)) = rw two-suc (ap (λ (l : List ℕ). (y * 2 ^ 64 + x) ∷ l) (elements-take k s))
 
-elements-behind : (vs b : List ℕ) → elements (words vs ++ b) ≡ vs ++ elements b
+pub elements-behind : (vs b : List ℕ) → elements (words vs ++ b) ≡ vs ++ elements b
 unfolding elements words
 elements-behind [] b = refl
 elements-behind (v ∷ vs) b = rw (split v 64, elements-behind vs b)

@@ -31,14 +31,13 @@ use Rattle.magnetar_relation.proofs.RangeLaws.{same-drop, system-cut}
 use Rattle.magnetar_batch.specs.TableSteps.{eqBehind, clearedBehind, pointIn, matrixAdded, systemAdded, tableMade}
 
 -- ---- the steps' parts of the words
--- with a point and a start that a step reads
-pub eq-behind-read : (m n l j v k : ℕ) (al p s t : List ℕ) → 2 * m ≤ length s → l ≡ min (2 * j) 32 → j ≡ log₂ n → v ≡ getD (elements al) k 0
-    → t ≡ eqOut (take (l - 0) p) v (take (length s - 2 * m) (drop (2 * m) s))
-    → putMid (2 * m) (length s - 2 * m) s t ≡ eqBehind m (getD (elements al) k 0) (pointIn n p) s
+-- with a point that a step reads
+pub eq-behind-read : (m n l j c : ℕ) (p s t : List ℕ) → 2 * m ≤ length s → l ≡ min (2 * j) 32 → j ≡ log₂ n
+    → t ≡ eqOut (take (l - 0) p) c (take (length s - 2 * m) (drop (2 * m) s)) → putMid (2 * m) (length s - 2 * m) s t ≡ eqBehind m c (pointIn n p) s
 unfolding eqBehind
-eq-behind-read m n l j v k al p s t h hl hj hv e =
+eq-behind-read m n l j c p s t h hl hj e =
     let d : l - 0 ≡ min (2 * log₂ n) 32 = omega (arith, ap (λ (i : ℕ). 2 * i) hj) in
-    behind-some m (eqOut (pointIn n p) (getD (elements al) k 0)) s t h (e ∙ rw (d, hv))
+    behind-some m (eqOut (pointIn n p) c) s t h (e ∙ rw d)
 
 pub eq-behind-none : (m c : ℕ) (p s : List ℕ) → length s < 2 * m → s ≡ eqBehind m c p s
 unfolding eqBehind
@@ -102,7 +101,7 @@ module _ (m n : ℕ) (f r : List ℕ) (lf : length f ≡ n) where
   unfolding columnAdded share
   one-column e t l = rw (second-read t (e .row) l) (one-added m (e .col) (e .value ⊗ getD f (e .row) 0) t (words f ++ r) l)
 
-  columns-are : (es : List Entry) (t : List ℕ) → length t ≡ m
+  pub columns-are : (es : List Entry) (t : List ℕ) → length t ≡ m
       → foldEntries (columnAdded m n) es (words t ++ (words f ++ r)) ≡ words (raised (rowTotal (share f) (map swapped es)) t) ++ (words f ++ r)
   unfolding foldEntries
   columns-are [] t l = ap (λ (u : List ℕ). words u ++ (words f ++ r)) (raised-none (share f) t)

@@ -3,3 +3,5 @@ pub mod Systems
 pub mod TableSteps
 pub mod Entries
 pub mod MarkedRows
+pub mod Value
+pub mod ValueSteps

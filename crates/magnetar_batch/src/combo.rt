@@ -19,7 +19,7 @@ ghost use Rattle.magnetar_batch.specs.Entries.{combined, comboOutcome};
 ghost use Rattle.magnetar_batch.specs.TableSteps.{eqBehind, pointIn, systemAdded, tableMade};
 
 // Adds the columns of the k entries from place a on, by the n factors behind the table of m elements.
-fn add_columns(
+pub(crate) fn add_columns(
     m: usize,
     n: usize,
     s: &mut [u64],

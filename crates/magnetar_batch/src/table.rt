@@ -11,6 +11,7 @@ ghost use mathlib.Core.Path.{_≡_};
 ghost use Prim.Native.Nat.{_+_, _*_, max};
 ghost use lib.Dec.{ltb};
 ghost use lib.ListN.{getD, take};
+ghost use Rattle.magnetar_field.specs.Gf128.{value};
 ghost use Rattle.magnetar_field.specs.Words.{elements, overlaid};
 ghost use Rattle.magnetar_layout.specs.Tests.{firstRefusal};
 ghost use Rattle.magnetar_matrix.specs.Lent.{entry};
@@ -18,16 +19,23 @@ ghost use Rattle.magnetar_relation.specs.Steps.{clearedTo, columnAdded};
 ghost use Rattle.magnetar_batch.specs.Entries.{comboTestsBy};
 ghost use Rattle.magnetar_batch.specs.TableSteps.{eqBehind, clearedBehind, padded, pointIn};
 
-// Puts the eq table of the row point p, for n rows, behind the first m elements, from alpha k: no later step multiplies by it.
-pub(crate) fn eq_behind(s: &mut [u64], m: usize, n: usize, al: [u64; 12], k: usize, p: [u64; 32])
-    ensures { λ _. ⌜ now (s .exit) ≡ eqBehind m (getD (elements al) k 0) (pointIn n p) (now (s .entry)) ⌝ }
+// Puts the eq table of the point p for n rows or columns, from c, behind the first m elements.
+pub(crate) fn eq_from(s: &mut [u64], m: usize, n: usize, c: Gf128, p: [u64; 32])
+    ensures { λ _. ⌜ now (s .exit) ≡ eqBehind m (value c) (pointIn n p) (now (s .entry)) ⌝ }
 {
-    let c = words::get(&al, k);
     let l = sizes::least(2 * sizes::log2(n), 32);
     if m <= s.len() / 2 {
         let a = 2 * m;
         let _done = EqBits::build(&p[0..l], c, &mut s[a..]);
     }
+}
+
+// Puts the eq table of the row point p, for n rows, behind the first m elements, from alpha k: no later step multiplies by it.
+pub(crate) fn eq_behind(s: &mut [u64], m: usize, n: usize, al: [u64; 12], k: usize, p: [u64; 32])
+    ensures { λ _. ⌜ now (s .exit) ≡ eqBehind m (getD (elements al) k 0) (pointIn n p) (now (s .entry)) ⌝ }
+{
+    let c = words::get(&al, k);
+    eq_from(s, m, n, c, p);
 }
 
 // Adds an entry's value times the element at its row, of the n behind the first m, to the element at its column.
@@ -63,7 +71,7 @@ pub(crate) fn clear_behind(s: &mut [u64], m: usize, nb: usize, nf: usize)
 }
 
 // The alphas, as an array.
-pub fn alphas12(al: &[u64]) -> [u64; 12]
+pub(crate) fn alphas12(al: &[u64]) -> [u64; 12]
     ensures { λ r. ⌜ r ≡ padded 12 (now (al .entry)) ⌝ }
 {
     let mut a = [0u64; 12];
@@ -72,7 +80,7 @@ pub fn alphas12(al: &[u64]) -> [u64; 12]
 }
 
 // A row point, as an array.
-pub fn point32(p: &[u64]) -> [u64; 32]
+pub(crate) fn point32(p: &[u64]) -> [u64; 32]
     ensures { λ r. ⌜ r ≡ padded 32 (now (p .entry)) ⌝ }
 {
     let mut a = [0u64; 32];
@@ -94,7 +102,7 @@ pub(crate) fn move_table(m: usize, s: &mut [u64], out: &mut [u64])
 }
 
 // m elements and k elements do not fit in so many words.
-fn is_over(m: usize, k: usize, room: usize) -> bool
+pub(crate) fn is_over(m: usize, k: usize, room: usize) -> bool
     ensures { λ r. ⌜ r ≡ ltb room (2 * m + 2 * k) ⌝ }
 {
     let h = room / 2;

@@ -15,7 +15,8 @@ use Rattle.magnetar_relation.specs.Rules.{Rules}
 use Rattle.magnetar_prover.specs.Capture.{capturedBy, captureOutcome}
 use Rattle.magnetar_prover.specs.declared.capture.Captured.{Captured}
 use Rattle.magnetar_spartan.specs.Outcome.{verified, verifyOutcome, proved, proveOutcome}
-use Rattle.magnetar_spartan.specs.Theorems.{AcceptedCall, ProvedCall}
+use Rattle.magnetar_spartan.specs.Refusals.{verifierScratchOf}
+use Rattle.magnetar_spartan.specs.Theorems.{AcceptedCall, ProvedCall, WritesAtMost}
 use Rattle.magnetar_sumcheck_verifier.specs.Outcome.{leftBy, roundOutcome}
 use Rattle.magnetar_sumcheck_verifier.specs.declared.verify.Round.{Round}
 use Rattle.magnetar_c.specs.CStructs.{element, evaluated}
@@ -26,9 +27,9 @@ use Rattle.magnetar_c.specs.declared.across.MagnetarValue.{MagnetarValue
 pub verified-handed :
     (R : Rules) (x w c s : List ℕ) {a b : TranscriptAnswer} {t u : Transcript} {c' s' : List ℕ} →
     b ≡ a →
-    (verified a c' s' ≡ verifyOutcome R x w t c s) × (a .code ≡ 0 → AcceptedCall R x w t c') →
+    (verified a c' s' ≡ verifyOutcome R x w t c s) × (WritesAtMost (verifierScratchOf R) s s' × (a .code ≡ 0 → AcceptedCall R x w t c')) →
     t ≡ u →
-    (verified b c' s' ≡ verifyOutcome R x w u c s) × (b .code ≡ 0 → AcceptedCall R x w u c')
+    (verified b c' s' ≡ verifyOutcome R x w u c s) × (WritesAtMost (verifierScratchOf R) s s' × (b .code ≡ 0 → AcceptedCall R x w u c'))
 verified-handed R x w c s e h f = rw (e, ← f) h
 
 -- the same of a prover

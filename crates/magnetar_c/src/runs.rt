@@ -20,7 +20,8 @@ ghost use Rattle.magnetar_digest.specs.Digest.{digestAnswer};
 ghost use Rattle.magnetar_check.specs.Check.{checkOutcome};
 ghost use Rattle.magnetar_batch.specs.Entries.{foldRefusal, foldOut, foldScratch, combined, comboOutcome};
 ghost use Rattle.magnetar_spartan.specs.Outcome.{verified, verifyOutcome, proved, proveOutcome};
-ghost use Rattle.magnetar_spartan.specs.Theorems.{AcceptedCall, ProvedCall};
+ghost use Rattle.magnetar_spartan.specs.Refusals.{verifierScratchOf};
+ghost use Rattle.magnetar_spartan.specs.Theorems.{AcceptedCall, ProvedCall, WritesAtMost};
 ghost use Rattle.magnetar_c.specs.CStructs as across;
 
 // The columns where the segments start.
@@ -178,6 +179,8 @@ pub extern "C" fn magnetar_verify_virtual_spartan(
     ensures outcome { λ r. ⌜ (let R = rules m q (now (lens .entry)) sh (now (row .entry)) (now (col .entry)) (now (lo .entry)) (now (hi .entry)) in
         verified (across.answer r) (now (claims .exit)) (now (scratch .exit))
         ≡ verifyOutcome R (now (x .entry)) (now (proof .entry)) (across.transcript t) (now (claims .entry)) (now (scratch .entry))) ⌝ }
+    ensures bound { λ _. ⌜ (let R = rules m q (now (lens .entry)) sh (now (row .entry)) (now (col .entry)) (now (lo .entry)) (now (hi .entry)) in
+        WritesAtMost (verifierScratchOf R) (now (scratch .entry)) (now (scratch .exit))) ⌝ }
     ensures sound { λ r. ⌜ (let R = rules m q (now (lens .entry)) sh (now (row .entry)) (now (col .entry)) (now (lo .entry)) (now (hi .entry)) in
         r .code ≡ 0
         → AcceptedCall R (now (x .entry)) (now (proof .entry)) (across.transcript t) (now (claims .exit))) ⌝ }

@@ -10,4 +10,5 @@ pub mod Verdicts
 pub mod FirstRow
 pub mod StrayVerdict
 pub mod Walked
+pub mod ByRows
 pub mod Examples

@@ -85,30 +85,28 @@ module _ (r : Relation) (w : List ℕ) (d : Draws) where
       }
       ∷ []
 
-  -- the inner rounds, and the claim that they leave: it is the combined table at the point of the challenges times v_z
-  unfoldable pub innerChecks : (table : List ℕ) → List Check
-  innerChecks table =
-      tabulate (λ i. record {
-        refusal = 27;
-        passes = roundHolds (innerClaim r w d) (innerRounds r w) (d .inner) i;
-        events = afterAlphas r + 2 * i;
-      }) (logCols r)
-      ++ record {
-        refusal = 28;
-        passes = eqb (running (innerClaim r w d) (innerRounds r w) (d .inner)) (innerEnd (mle table (d .inner)) (valueZ r w));
-        events = afterInner r;
-      }
+  -- the inner rounds, and the claim that they leave: it is v times v_z, v being the combined table at the point of the challenges
+  abbrev pub innerChecksAt : (v : ℕ) → List Check
+  innerChecksAt v =
+      tabulate (λ i. record { refusal = 27; passes = roundHolds (innerClaim r w d) (innerRounds r w) (d .inner) i; events = afterAlphas r + 2 * i }) (logCols r)
+      ++ record { refusal = 28; passes = eqb (running (innerClaim r w d) (innerRounds r w) (d .inner)) (innerEnd v (valueZ r w)); events = afterInner r }
       ∷ []
 
-  -- v_z is (1 + top) times the segment sum plus top times the folded public half at the low point
-  unfoldable pub identityCheck : (half : List ℕ) → List Check
-  identityCheck half =
+  unfoldable pub innerChecks : (table : List ℕ) → List Check
+  innerChecks table = innerChecksAt (mle table (d .inner))
+
+  -- v_z is (1 + top) times the segment sum plus top times p, p being the folded public half at the low point
+  abbrev pub identityCheckAt : (p : ℕ) → List Check
+  identityCheckAt p =
       record {
         refusal = 29;
-        passes = eqb ((1 ⊕ topElement r d) ⊗ segmentSum (r .lengths) (lowPoint r d) 0 (segmentValues r w) ⊕ topElement r d ⊗ mle half (lowPoint r d)) (valueZ r w);
+        passes = eqb ((1 ⊕ topElement r d) ⊗ segmentSum (r .lengths) (lowPoint r d) 0 (segmentValues r w) ⊕ topElement r d ⊗ p) (valueZ r w);
         events = afterInner r + 1;
       }
       ∷ []
+
+  unfoldable pub identityCheck : (half : List ℕ) → List Check
+  identityCheck half = identityCheckAt (mle half (lowPoint r d))
 
 -- all of them, with the public columns x of each login
 unfoldable pub checks : Relation → PublicColumns → (w : List ℕ) → Draws → List Check

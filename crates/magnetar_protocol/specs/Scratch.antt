@@ -1,4 +1,4 @@
--- How many words of scratch a run asks for (document 01, "The run": scratch words; document 02, U6).
+-- How many words of scratch a run asks for (document 01, "The run": scratch words; document 02, U6 and U8).
 -- Assumes nothing.
 use Prim.Native.Nat.{ℕ, _+_, _*_, max}
 use Rattle.magnetar_field.specs.Refusal.{unlessRefused}
@@ -6,9 +6,9 @@ use Rattle.magnetar_layout.specs.Tests.{firstRefusal}
 use Rattle.magnetar_protocol.specs.RunTests.{runTests}
 use Rattle.magnetar_protocol.specs.declared.scratch.ScratchWords.{ScratchWords}
 
--- the verifier: 4m, 4 times the larger row count, and 2q
+-- the verifier: 2m, 2 times the larger row count, and 2q
 abbrev pub verifierScratch : (m q rb rf : ℕ) → ℕ
-verifierScratch m q rb rf = 4 * m + 4 * max rb rf + 2 * q
+verifierScratch m q rb rf = 2 * m + 2 * max rb rf + 2 * q
 
 -- the prover: 8q times both row counts, 8m, 4 times the larger row count, and 6q
 abbrev pub proverScratch : (m q rb rf : ℕ) → ℕ

@@ -16,7 +16,7 @@ fn verifier_words(m: usize, q: usize, rb: usize, rf: usize) -> usize
     requires { ⌜ (m ≤ 65536) × (q ≤ 4096) × (rb ≤ 65536) × (rf ≤ 65536) ⌝ }
     ensures { λ r. ⌜ r ≡ verifierScratch m q rb rf ⌝ }
 {
-    4 * m + 4 * sizes::larger(rb, rf) + 2 * q
+    2 * m + 2 * sizes::larger(rb, rf) + 2 * q
 }
 
 // q times the rows of both systems.

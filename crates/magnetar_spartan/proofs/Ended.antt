@@ -28,6 +28,7 @@ use Rattle.magnetar_spartan.proofs.SizedRules.{rules-numbered, ready}
 
 -- ---- what is left where no test is bad
 pub record Verifiable (R : Rules) (x w : List ℕ) (n c s : ℕ) : Type 0 where
+  pub passed : Clear (ruleTests R)
   pub ready : ValidRules R
   pub public : length x ≡ R .q * (R .m - 2)
   pub claims : claimWords R ≤ c
@@ -48,6 +49,7 @@ verifiable R x w n c s e =
     let rest : Tests = counterTests n ++ (roomTestOf (claimWords R) c ++ (roomTestOf (verifierScratchOf R) s ++ proofTests (sizesOnlyOf R) w)) in
     let b = clear-back (rulesTests R) rest (k .1 .1 .1) in
     record {
+      passed = clear-front (ruleTests R) (layoutTests (R .m / 2) (R .lengths)) (clear-front (rulesTests R) rest (k .1 .1 .1));
       ready = rules-ready R rest (k .0, (k .1 .0, tt)) (k .1 .1 .1);
       public = eqb-true (length x) (R .q * (R .m - 2)) (not-false _ (k .1 .1 .0));
       claims = ltb-false c (claimWords R) (b .1 .0);

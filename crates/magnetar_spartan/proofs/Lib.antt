@@ -9,7 +9,8 @@ pub mod VerifyRun
 pub mod Ended
 pub mod Within
 pub mod DrawnTable
-pub mod PublicLaid
+pub mod PublicValue
+pub mod ScratchBound
 pub mod VerifyEnds
 pub mod Sound
 pub mod Complete

@@ -350,8 +350,8 @@ module _ (R : Rules) (ws x w c s : List ℕ) (t : Transcript) where
       let many = D-long R ws x w c s t ok s₁ Q u d v s₂ done in
       let e : s₃ ≡ tableAt (relationOf R) (overlaid drawn (replicate 256 0)) s₂ =
       table ∙ ap (λ (l : List ℕ). tableAt (relationOf R) l s₂) (D-over R ws x w c s t ok s₁ Q u d v s₂ done) in
-      let b : Beyond (proverScratchOf R) s₂ s₃ = subst (Beyond (proverScratchOf R) s₂) (sym e) (drawn-beyond R (ok .ready) drawn s₂ many enough (proverScratchOf R) (omega arith)) in
-      let front = ap (λ (l : List ℕ). take (R .m) (elements l)) e ∙ drawn-combined R (ok .ready) drawn s₂ many enough in
+      let b : Beyond (proverScratchOf R) s₂ s₃ = subst (Beyond (proverScratchOf R) s₂) (sym e) (drawn-beyond R (ok .ready) drawn many s₂ enough (proverScratchOf R) (omega arith)) in
+      let front = ap (λ (l : List ℕ). take (R .m) (elements l)) e ∙ drawn-combined R (ok .ready) drawn many s₂ enough in
       let o : provedInPlace 0 u′ w′ c′ s′ ≡ proveOutcome R ws x t w c s =
       run-is R ws x w c s t ok s₁ Q u d v s₂ done s₃ front (b .long) (b .rest) none u′ w′ c′ s′
       (later .1 (d-long R ws x w c s t ok s₁ Q u d v s₂ done)) in

@@ -1,51 +1,61 @@
--- How the verifier ends: what its stages gave is its outcome, the table being made in either form.
+-- How the verifier ends: what its stages gave is its outcome, the table's value being made in either form.
 -- Assumes nothing.
-use mathlib.Core.Path.{_≡_, refl, sym, ap, _∙_}
-use mathlib.Core.Bool.{Bool, true, false, cond, false≢true}
+use mathlib.Core.Path.{_≡_, refl, sym, ap, ap₂, _∙_}
+use mathlib.Core.Bool.{true, false, cond}
 use mathlib.Core.List.{List, _++_}
 use Prim.Native.Nat.{ℕ, zero, suc, _+_, _*_, _/_, _≤_, min, max}
 use native.Mathlib.Omega.{arith}
 use lib.Dec.{eqb}
-use lib.ListN.{length, take, drop, replicate, length-drop, length-replicate}
+use lib.ListN.{length, drop, replicate, length-append, length-drop, length-replicate}
 use lib.Seq.{take-at}
 use borrow.Author.Tests.{le-leb, eq-eqb, ne-eqb}
 use Rattle.magnetar_field.specs.Words.{elements, words, overlaid}
 use Rattle.magnetar_hash.specs.declared.transcript.Transcript.{Transcript}
 use Rattle.magnetar_hash.specs.declared.transcript.TranscriptAnswer.{TranscriptAnswer}
-use Rattle.magnetar_layout.specs.Tests.{firstRefusal}
+use Rattle.magnetar_layout.specs.Tests.{firstRefusal, columnTests, roomTestOf}
 use Rattle.magnetar_matrix.proofs.TableLaws.{elements-words}
 use Rattle.magnetar_matrix.specs.Batch.{Relation, publicFolded}
-use Rattle.magnetar_protocol.specs.Draws.{Draws, drawCount, drawsOf, loginPoint}
+use Rattle.magnetar_multilinear.specs.Multilinear.{mle}
+use Rattle.magnetar_protocol.specs.Draws.{Draws, drawCount, drawsOf, loginPoint, lowPoint}
 use Rattle.magnetar_schedule.specs.ScheduleRun.{RunState}
 use Rattle.magnetar_protocol.specs.Checks.{combined}
 use Rattle.magnetar_schedule.specs.RealRun.{verifierDraws}
 use Rattle.magnetar_protocol.specs.declared.first.Found.{Found}
-use Rattle.magnetar_verifier.specs.End.{endRefusal, endScratch}
+use Rattle.magnetar_batch.specs.Entries.{comboScratchOf}
+use Rattle.magnetar_batch.specs.Value.{CombinedAt, valueOutcome, valueRefusal}
+use Rattle.magnetar_layout.proofs.FirstRefusal.{first-refusal-kept}
 use Rattle.magnetar_relation.specs.Rules.{Rules, relationOf}
-use Rattle.magnetar_relation.specs.RuleTests.{ruleTests}
+use Rattle.magnetar_relation.specs.RuleTests.{ruleTests, ruleTestsBy}
 use Rattle.magnetar_relation.specs.Steps.{clearedTo}
 use Rattle.magnetar_spartan.specs.declared.stages.OuterStage.{OuterStage}
 use Rattle.magnetar_spartan.specs.Refusals.{rowsBin, rowsFld, sizesOnlyOf, verifierScratchOf}
 use Rattle.magnetar_spartan.specs.Numbers.{verifyTestsBy}
 use Rattle.magnetar_spartan.specs.Outcome.{columnsOf, verified, verifyRefusal, verifyOutcome}
-use Rattle.magnetar_spartan.specs.Theorems.{AreWords, AcceptedCall}
-use Rattle.magnetar_spartan.specs.Table.{tableAt}
-use Rattle.magnetar_spartan.specs.Stages.{drawnWords, runTo, drawnOf, publicHalfAt, outerAt, outerStage, checkedAt, scratchElements, finished, outerStageUnless, finishedUnless}
+use Rattle.magnetar_spartan.specs.Theorems.{AreWords, AcceptedCall, WritesAtMost}
+use Rattle.magnetar_spartan.specs.Table.{forOne, tableValue, valueLeft}
+use Rattle.magnetar_spartan.specs.Stages.{drawnWords, runTo, drawnOf, outerAt, endAt, outerStage, halfValue, halfLeft, concluded, firstOf, Concluded, stoppedAt, checkedAt, outerStageUnless, finishedUnless}
 use Rattle.magnetar_spartan.proofs.Verifying.{played-all, schedule-small}
 use Rattle.magnetar_spartan.proofs.VerifyRun.{draws-many, drawn-is, checks-leave}
 use Rattle.magnetar_spartan.proofs.Ended.{Verifiable, verifiable, draws-small, verify-refused}
 use Rattle.magnetar_spartan.proofs.ByNumbers.{verify-by}
+use Rattle.magnetar_spartan.proofs.ScratchBound.{writes-at-most}
 use Rattle.magnetar_spartan.proofs.Sound.{accepted-call}
-use Rattle.magnetar_spartan.proofs.DrawnTable.{drawn-combined, drawn-beyond}
-use Rattle.magnetar_spartan.proofs.PublicLaid.{laidBehindTable, laid, laid-table, laid-half, laid-beyond}
-use Rattle.magnetar_spartan.proofs.Room.{Beyond, in-front, over}
+use Rattle.magnetar_spartan.proofs.DrawnTable.{drawn-value, drawn-left}
+use Rattle.magnetar_spartan.proofs.PublicValue.{run-value, run-left}
+use Rattle.magnetar_spartan.proofs.Room.{over, cleared-twice}
 
--- ---- the room
-cleared-room : (k n : ℕ) (s u : List ℕ) → 2 * n ≡ k → k ≤ length s → Beyond k s u → clearedTo n u ≡ replicate k 0 ++ drop k s
-unfolding clearedTo
-cleared-room k n s u e h b =
-    let d : k ≤ length u = omega (arith, h, b .long) in
-    rw (e, le-leb k (length u) d, b .rest)
+-- ---- a number that refuses the value
+value-kept : (z : ℕ) (R : Rules) (n : ℕ) → (z ≡ 0 → ⊥) → valueRefusal z R n ≡ z
+unfolding valueRefusal
+value-kept z R n h =
+    first-refusal-kept z (columnTests (R .m) ++ (ruleTestsBy (R .m) (R .q) (R .shapes) (R .numbers) true ++ roomTestOf (comboScratchOf R) n)) h
+
+value-back : (z : ℕ) (R : Rules) (al p r y s : List ℕ) → (z ≡ 0 → ⊥) → valueOutcome z R al p r y s ≡ record { code = valueRefusal z R (length s); value = 0; scratch = s }
+unfolding valueOutcome
+value-back z R al p r y s h = rw (ne-eqb (valueRefusal z R (length s)) 0 (λ e. h (sym (value-kept z R (length s) h) ∙ e)))
+
+value-refused : (z : ℕ) (R : Rules) (al p r y s : List ℕ) → (z ≡ 0 → ⊥) → valueOutcome z R al p r y s .scratch ≡ s
+value-refused z R al p r y s h = ap (λ (o : CombinedAt). o .scratch) (value-back z R al p r y s h)
 
 -- ---- a run that nothing refuses before its checks
 module _ (R : Rules) (x w : List ℕ) (t : Transcript) (c s : List ℕ) (none : verifyRefusal R x w t c s ≡ 0) where
@@ -84,58 +94,81 @@ module _ (R : Rules) (x w : List ℕ) (t : Transcript) (c s : List ℕ) (none : 
   abbrev F : Found
   F = outerAt o w drawn
 
-  -- the table in front of u, where the checks come to it, and the public half v laid behind it
-  module _ (u : List ℕ) (b : Beyond (verifierScratchOf R) s u)
-      (table : F .code ≡ 0 → take (R .m) (elements u) ≡ combined (relationOf R) D) where
-    room-before : 4 * R .m + 2 * R .q ≤ length u
-    room-before = omega (arith, fits .scratch, b .long)
+  -- ---- the stages: from the words s the value v of the table and s₁, the value p of the half and s₂
+  abbrev dw : List ℕ
+  dw = drawnWords o w t
 
-    abbrev v : List ℕ
-    v = laidBehindTable R (fits .ready) x drawn u drawn-long (fits .public) room-before
+  module _ (v p : ℕ) (s₁ s₂ : List ℕ) (hv : (v ≡ tableValue (F .code) R dw s) × (s₁ ≡ valueLeft (F .code) R dw s))
+      (hp : (p ≡ cond (eqb (F .code) 0) (halfValue (R .m) (R .q) (rowsBin R) (rowsFld R) x dw s₁) 0) × (s₂ ≡ cond (eqb (F .code) 0) (halfLeft (R .m) (R .q) (rowsBin R) (rowsFld R) x dw s₁) s₁)) where
+    enough : 2 * R .m + 2 * max (rowsBin R) (rowsFld R) ≤ length s
+    enough = omega (arith, fits .scratch)
 
-    half-laid : publicHalfAt o x (drawnWords o w t) u ≡ v
-    half-laid = rw words-are (laid R (fits .ready) x drawn u drawn-long (fits .public) room-before)
+    at-draws : {A : Type 0} (f : List ℕ → A) → f dw ≡ f (overlaid drawn (replicate 256 0))
+    at-draws f = ap f words-are
 
-    beyond : Beyond (verifierScratchOf R) s v
-    beyond =
-        let f = laid-beyond R (fits .ready) x drawn u drawn-long (fits .public) room-before (verifierScratchOf R) (omega arith) in
-        record { long = f .long ∙ b .long; rest = f .rest ∙ b .rest }
+    -- where the outer checks pass
+    module _ (z : F .code ≡ 0) where
+      table-value : v ≡ mle (combined (relationOf R) D) (D .inner)
+      table-value =
+          hv .0 ∙ rw z (at-draws (λ (l : List ℕ). tableValue 0 R l s)
+          ∙ (drawn-value R (fits .ready) drawn drawn-long s enough (fits .passed)
+          ∙ ap (λ (l : List ℕ). mle (combined (relationOf R) (drawsOf (relationOf R) l)) (drawsOf (relationOf R) l .inner)) (elements-words (verifierDraws (relationOf R) (elements w) t))))
 
-    room : 4 * R .m ≤ length v
-    room = omega (arith, fits .scratch, beyond .long)
+      table-left : s₁ ≡ clearedTo (R .m + max (rowsBin R) (rowsFld R)) s
+      table-left = hv .1 ∙ rw z (at-draws (λ (l : List ℕ). valueLeft 0 R l s) ∙ drawn-left R (fits .ready) drawn drawn-long s enough (fits .passed))
 
-    table-laid : F .code ≡ 0 → take (R .m) (elements v) ≡ combined (relationOf R) D
-    table-laid z = laid-table R (fits .ready) x drawn u drawn-long (fits .public) room-before ∙ table z
+      room-kept : length s₁ ≡ length s
+      unfolding clearedTo
+      room-kept =
+          let k = R .m + max (rowsBin R) (rowsFld R) in
+          ap length table-left ∙ rw (le-leb (2 * k) (length s) (omega (arith, enough)), length-append, length-replicate, length-drop) (omega (arith, enough))
 
-    half-is : take (R .m / 2) (drop (R .m) (elements v)) ≡ publicFolded (R .q) (R .m / 2) (columnsOf R x) (loginPoint D)
-    half-is =
-        laid-half R (fits .ready) x drawn u drawn-long (fits .public) room-before
-        ∙ ap (λ (l : List ℕ). publicFolded (R .q) (R .m / 2) (columnsOf R x) (loginPoint (drawsOf (relationOf R) l)))
-        (elements-words (verifierDraws (relationOf R) (elements w) t))
+      room : 2 * R .m + 2 * R .q ≤ length s₁
+      room = omega (arith, fits .scratch, room-kept)
 
-    after-end : Beyond (verifierScratchOf R) s (replicate (4 * R .m) 0 ++ drop (4 * R .m) v)
-    after-end =
-        let l : length (replicate {A = ℕ} (4 * R .m) 0) ≡ 4 * R .m = length-replicate (4 * R .m) 0 in
-        let f = in-front (verifierScratchOf R) v (replicate (4 * R .m) 0) (drop (4 * R .m) v) (omega (arith, l))
-        (rw (l, length-drop) (omega (arith, room))) (ap (λ (i : ℕ). drop i v) (sym l)) in
-        record { long = f .long ∙ beyond .long; rest = f .rest ∙ beyond .rest }
+      half-value : p ≡ mle (publicFolded (R .q) (R .m / 2) (columnsOf R x) (loginPoint D)) (lowPoint (relationOf R) D)
+      half-value =
+          hp .0 ∙ rw (eq-eqb (F .code) 0 z) (at-draws (λ (l : List ℕ). halfValue (R .m) (R .q) (rowsBin R) (rowsFld R) x l s₁)
+          ∙ (run-value R (fits .ready) x drawn s₁ drawn-long (fits .public) room
+          ∙ ap (λ (l : List ℕ). mle (publicFolded (R .q) (R .m / 2) (columnsOf R x) (loginPoint (drawsOf (relationOf R) l))) (lowPoint (relationOf R) (drawsOf (relationOf R) l)))
+          (elements-words (verifierDraws (relationOf R) (elements w) t))))
 
-    room-after : Beyond (verifierScratchOf R) s (checkedAt o w drawn t (runTo o w t 65536) F c v .scratch)
-    unfolding endScratch
-    room-after = go (eqb (F .code) 0) (eqb (endRefusal o w drawn v) 0) refl refl
+      half-left : s₂ ≡ clearedTo (R .m + R .q) s₁
+      half-left =
+          hp .1 ∙ rw (eq-eqb (F .code) 0 z) (at-draws (λ (l : List ℕ). halfLeft (R .m) (R .q) (rowsBin R) (rowsFld R) x l s₁)
+          ∙ run-left R (fits .ready) x drawn s₁ drawn-long (fits .public) room)
+
+    -- the scratch, cleared at last
+    abbrev K : ℕ
+    K = R .m + max (rowsBin R) (rowsFld R) + R .q
+
+    cleared-is : clearedTo K s₂ ≡ clearedTo K s
+    cleared-is = go (F .code) refl
       where
-        go : (p q : Bool) → eqb (F .code) 0 ≡ p → eqb (endRefusal o w drawn v) 0 ≡ q
-            → Beyond (verifierScratchOf R) s (checkedAt o w drawn t (runTo o w t 65536) F c v .scratch)
-        go false q e f = rw e beyond
-        go true false e f = rw (e, f) beyond
-        go true true e f = rw (e, f) after-end
+        go : (n : ℕ) → F .code ≡ n → clearedTo K s₂ ≡ clearedTo K s
+        go zero e =
+            let f : 2 * K ≤ length s = omega (arith, fits .scratch) in
+            ap (clearedTo K) (half-left e)
+            ∙ (cleared-twice (R .m + R .q) K s₁ (omega arith) (omega (arith, f, room-kept e))
+            ∙ (ap (clearedTo K) (table-left e) ∙ cleared-twice (R .m + max (rowsBin R) (rowsFld R)) K s (omega arith) f))
+        go (suc n) e =
+            let h : F .code ≡ 0 → ⊥ = λ i. omega (arith, e, i) in
+            let a : s₁ ≡ s = hv .1 ∙ value-refused (F .code) (forOne R) _ _ _ _ s h in
+            ap (clearedTo K) (hp .1 ∙ (rw (ne-eqb (F .code) 0 h) a))
 
-    pub run-ends : finished o x w t (outerStage o w t) c u ≡ verifyOutcome R x w t c s
+    scratch-is : clearedTo K s₂ ≡ replicate (verifierScratchOf R) 0 ++ drop (verifierScratchOf R) s
+    unfolding clearedTo
+    scratch-is =
+        let n : 2 * K ≡ verifierScratchOf R = omega arith in
+        cleared-is ∙ rw (n, le-leb (verifierScratchOf R) (length s) (fits .scratch))
+
+    pub run-ends : (a : TranscriptAnswer) (c′ s₃ : List ℕ) → concluded a c′ ≡ checkedAt o w t (outerStage o w t) v p c → s₃ ≡ clearedTo K s₂
+        → verified a c′ s₃ ≡ verifyOutcome R x w t c s
     unfolding verifyOutcome
-    run-ends =
-        let l = checks-leave R (fits .ready) x w t (fits .proof) (fits .counter) c v (fits .claims) room table-laid half-is in
-        let r = cleared-room (verifierScratchOf R) (scratchElements o) s _ (omega arith) (fits .scratch) room-after in
-        rw (none, draws-are, half-laid, ← l .0, ← l .1, ← l .2, r)
+    run-ends a c′ s₃ e f =
+        let l = checks-leave R (fits .ready) x w t (fits .proof) (fits .counter) c v p (fits .claims) table-value half-value in
+        let g : concluded a c′ ≡ stoppedAt o w drawn t (runTo o w t 65536) (firstOf F (endAt o w drawn v p)) c = e ∙ rw draws-are in
+        rw (none, f, scratch-is, ← l .0, ← l .1, ← l .2) (ap (λ (k : Concluded). record { code = k .code; transcript = k .transcript; claims = k .claims; scratch = replicate (verifierScratchOf R) 0 ++ drop (verifierScratchOf R) s }) g)
 
 -- ---- the whole verifier: y is the number of 4 to 7, z that of all tests before the checks
 module _ (R : Rules) (x w : List ℕ) (t : Transcript) (c s : List ℕ) (y z : ℕ) (hy : y ≡ firstRefusal 0 (ruleTests R))
@@ -144,72 +177,54 @@ module _ (R : Rules) (x w : List ℕ) (t : Transcript) (c s : List ℕ) (y z : �
   unfolding verifyRefusal
   number = hz ∙ verify-by R y hy x w (t .«squeeze_ctr») (length c) (length s)
 
-  -- the combined table at the draws, in front of the scratch
-  abbrev table : List ℕ
-  table = tableAt (relationOf R) (drawnWords (sizesOnlyOf R) w t) s
+  -- what the stages gave: g, the values v and p, and the words s₁, s₂ and s₃ of the scratch
+  pub record Staged (g : OuterStage) (v p : ℕ) (s₁ s₂ s₃ : List ℕ) (a : TranscriptAnswer) (c′ : List ℕ) : Type 0 where
+    pub begun : g ≡ outerStageUnless z (sizesOnlyOf R) w t
+    pub table : (v ≡ tableValue (g .found .code) R (g .draws) s) × (s₁ ≡ valueLeft (g .found .code) R (g .draws) s)
+    pub half : (p ≡ cond (eqb (g .found .code) 0) (halfValue (R .m) (R .q) (rowsBin R) (rowsFld R) x (g .draws) s₁) 0)
+        × (s₂ ≡ cond (eqb (g .found .code) 0) (halfLeft (R .m) (R .q) (rowsBin R) (rowsFld R) x (g .draws) s₁) s₁)
+    pub room : s₃ ≡ cond (eqb z 0) (clearedTo (R .m + max (rowsBin R) (rowsFld R) + R .q) s₂) s₂
+    pub ended : concluded a c′ ≡ finishedUnless z (sizesOnlyOf R) w t g v p c
 
-  -- turned back
-  back : (a : TranscriptAnswer) (c′ s′ : List ℕ) (g : OuterStage) (u : List ℕ) → (z ≡ 0 → ⊥) → g ≡ outerStageUnless z (sizesOnlyOf R) w t
-      → u ≡ cond (eqb (g .found .code) 0) (tableAt (relationOf R) (g .draws) s) s → verified a c′ s′ ≡ finishedUnless z (sizesOnlyOf R) x w t g c u
-      → verified a c′ s′ ≡ verifyOutcome R x w t c s
-  unfolding outerStageUnless finishedUnless
-  back a c′ s′ g u h hg hu e =
-      let b = ne-eqb z 0 h in
-      e ∙ (rw (b, hu, hg, b, b) (verify-refused R x w t c s z number h))
+  module _ (g : OuterStage) (v p : ℕ) (s₁ s₂ s₃ : List ℕ) (a : TranscriptAnswer) (c′ : List ℕ) (G : Staged g v p s₁ s₂ s₃ a c′) where
+    abbrev Is : Type 0
+    Is = verified a c′ s₃ ≡ verifyOutcome R x w t c s
 
-  -- run through: the table is there, unless the outer checks stop the run
-  through : z ≡ 0 → finished (sizesOnlyOf R) x w t (outerStage (sizesOnlyOf R) w t) c (cond (eqb (outerStage (sizesOnlyOf R) w t .found .code) 0) table s) ≡ verifyOutcome R x w t c s
-  through h = run-ends R x w t c s none (cond b table s) (beyond b) (λ i. front b (eq-eqb (outerStage (sizesOnlyOf R) w t .found .code) 0 (rw draws i)))
-    where
-      b : Bool
-      b = eqb (outerStage (sizesOnlyOf R) w t .found .code) 0
+    -- the outcome from its parts
+    parted : (k : Concluded) (u : List ℕ) → concluded a c′ ≡ k → s₃ ≡ u
+        → verified a c′ s₃ ≡ record { code = k .code; transcript = k .transcript; claims = k .claims; scratch = u }
+    parted k u e f = ap₂ (λ (i : Concluded) (l : List ℕ). record { code = i .code; transcript = i .transcript; claims = i .claims; scratch = l }) e f
 
-      none : verifyRefusal R x w t c s ≡ 0
-      none = sym number ∙ h
+    -- turned back
+    back : (z ≡ 0 → ⊥) → Is
+    unfolding outerStageUnless finishedUnless
+    back h =
+        let b = ne-eqb z 0 h in
+        let k : g .found .code ≡ z = ap (λ (i : OuterStage). i .found .code) (G .begun) ∙ rw b in
+        let n : eqb (g .found .code) 0 ≡ false = rw (k, b) in
+        let e₁ : s₁ ≡ s = G .table .1 ∙ value-refused (g .found .code) (forOne R) _ _ _ _ s (λ i. h (sym k ∙ i)) in
+        let e₂ : s₂ ≡ s = G .half .1 ∙ rw n e₁ in
+        let e₃ : s₃ ≡ s = G .room ∙ rw b e₂ in
+        parted (record { code = z; transcript = t; claims = c }) s (G .ended ∙ rw b) e₃ ∙ verify-refused R x w t c s z number h
 
-      D : List ℕ
-      D = drawn R x w t c s none
+    -- run through
+    done : z ≡ 0 → Is
+    unfolding outerStageUnless finishedUnless
+    done h =
+        let none : verifyRefusal R x w t c s ≡ 0 = sym number ∙ h in
+        let e : g ≡ outerStage (sizesOnlyOf R) w t = G .begun ∙ rw h in
+        let k = ap (λ (l : List ℕ). outerAt (sizesOnlyOf R) w l .code) (draws-are R x w t c s none) in
+        let f : g .found .code ≡ F R x w t c s none .code = ap (λ (i : OuterStage). i .found .code) e ∙ k in
+        let d : g .draws ≡ drawnWords (sizesOnlyOf R) w t = ap (λ (i : OuterStage). i .draws) e in
+        run-ends R x w t c s none v p s₁ s₂ (rw (f, d) at (G .table)) (rw (f, d) at (G .half)) a c′ s₃ (G .ended ∙ rw (h, e)) (G .room ∙ rw h)
 
-      draws : drawnOf (sizesOnlyOf R) (drawnWords (sizesOnlyOf R) w t) ≡ D
-      draws = draws-are R x w t c s none
+    is : (n : ℕ) → z ≡ n → Is
+    is zero h = done h
+    is (suc n) h = back (λ i. omega (arith, h, i))
 
-      ok : Verifiable R x w (t .«squeeze_ctr») (length c) (length s)
-      ok = fits R x w t c s none
-
-      enough : 2 * R .m + 2 * max (rowsBin R) (rowsFld R) ≤ length s
-      enough = omega (arith, ok .scratch)
-
-      is-table : table ≡ tableAt (relationOf R) (overlaid D (replicate 256 0)) s
-      is-table = ap (λ (l : List ℕ). tableAt (relationOf R) l s) (words-are R x w t c s none)
-
-      beyond : (i : Bool) → Beyond (verifierScratchOf R) s (cond i table s)
-      beyond true = rw is-table (drawn-beyond R (ok .ready) D s (drawn-long R x w t c s none) enough (verifierScratchOf R) (omega arith))
-      beyond false = record { long = refl; rest = refl }
-
-      front : (i : Bool) → i ≡ true
-          → take (R .m) (elements (cond i table s)) ≡ combined (relationOf R) (drawsOf (relationOf R) (verifierDraws (relationOf R) (elements w) t))
-      front true e =
-          rw is-table (drawn-combined R (ok .ready) D s (drawn-long R x w t c s none) enough
-          ∙ ap (λ (l : List ℕ). combined (relationOf R) (drawsOf (relationOf R) l)) (elements-words (verifierDraws (relationOf R) (elements w) t)))
-      front false e = absurd (false≢true e)
-
-  done : (a : TranscriptAnswer) (c′ s′ : List ℕ) (g : OuterStage) (u : List ℕ) → z ≡ 0 → g ≡ outerStageUnless z (sizesOnlyOf R) w t
-      → u ≡ cond (eqb (g .found .code) 0) (tableAt (relationOf R) (g .draws) s) s → verified a c′ s′ ≡ finishedUnless z (sizesOnlyOf R) x w t g c u
-      → verified a c′ s′ ≡ verifyOutcome R x w t c s
-  unfolding outerStageUnless finishedUnless
-  done a c′ s′ g u h hg hu e = e ∙ rw (h, hu, hg, h) (through h)
-
-  ends : (n : ℕ) → z ≡ n → (a : TranscriptAnswer) (c′ s′ : List ℕ) (g : OuterStage) (u : List ℕ) → g ≡ outerStageUnless z (sizesOnlyOf R) w t
-      → u ≡ cond (eqb (g .found .code) 0) (tableAt (relationOf R) (g .draws) s) s → verified a c′ s′ ≡ finishedUnless z (sizesOnlyOf R) x w t g c u
-      → verified a c′ s′ ≡ verifyOutcome R x w t c s
-  ends zero h a c′ s′ g u = done a c′ s′ g u h
-  ends (suc n) h a c′ s′ g u = back a c′ s′ g u (λ i. omega (arith, h, i))
-
-  -- the answer a, the claims c′ and the scratch s′, where the first stage gave g and the table was made, or not, in front of u
-  pub verify-ends : (a : TranscriptAnswer) (c′ s′ : List ℕ) (g : OuterStage) (u : List ℕ) → g ≡ outerStageUnless z (sizesOnlyOf R) w t
-      → u ≡ cond (eqb (g .found .code) 0) (tableAt (relationOf R) (g .draws) s) s
-      → (verified a c′ s′ ≡ finishedUnless z (sizesOnlyOf R) x w t g c u) × AreWords x × AreWords w
-      → (verified a c′ s′ ≡ verifyOutcome R x w t c s) × (a .code ≡ 0 → AcceptedCall R x w t c′)
-  verify-ends a c′ s′ g u hg hu f =
-      let e = ends z refl a c′ s′ g u hg hu (f .0) in
-      (e, accepted-call R x w t c s (verified a c′ s′) (f .1) (f .2) e)
+    -- the outcome, that no word past the formula is written, and what an accepted call says
+    pub verify-ends : AreWords x → AreWords w
+        → (verified a c′ s₃ ≡ verifyOutcome R x w t c s) × WritesAtMost (verifierScratchOf R) s s₃ × (a .code ≡ 0 → AcceptedCall R x w t c′)
+    verify-ends ax aw =
+        let e = is z refl in
+        (e, writes-at-most R x w t c s (verified a c′ s₃) e, accepted-call R x w t c s (verified a c′ s₃) ax aw e)

@@ -4,16 +4,17 @@ use mathlib.Core.Path.{_≡_, refl, sym, ap, _∙_}
 use mathlib.Core.List.{List, _++_}
 use Prim.Native.Nat.{ℕ, zero, suc, _+_, _*_, _/_, _^_, _≤_, _<_}
 use native.Mathlib.Omega.{arith}
-use lib.ListN.{length, take, drop, replicate, length-replicate}
+use lib.ListN.{length, take, replicate, length-replicate}
 use borrow.Author.Tests.{eq-eqb, ne-eqb, lt-ltb}
 use Rattle.magnetar_field.specs.Words.{elements, words, overlaid}
 use Rattle.magnetar_field.proofs.Elements.{words-length}
 use Rattle.magnetar_matrix.proofs.TableLaws.{elements-words}
 use Rattle.magnetar_hash.specs.declared.transcript.Transcript.{Transcript}
 use Rattle.magnetar_layout.specs.Tests.{roomTest}
+use Rattle.magnetar_multilinear.specs.Multilinear.{mle}
 use Rattle.magnetar_matrix.specs.Batch.{Relation, publicFolded}
 use Rattle.magnetar_protocol.specs.Shape.{proofElements, claimCount}
-use Rattle.magnetar_protocol.specs.Draws.{drawsOf, drawCount, loginPoint}
+use Rattle.magnetar_protocol.specs.Draws.{drawsOf, drawCount, loginPoint, lowPoint}
 use Rattle.magnetar_protocol.specs.Checks.{combined}
 use Rattle.magnetar_protocol.specs.Run.{claims}
 use Rattle.magnetar_schedule.specs.Schedule.{schedule}
@@ -24,16 +25,16 @@ use Rattle.magnetar_protocol.specs.declared.first.Found.{Found}
 use Rattle.magnetar_protocol.specs.Found.{firstFound}
 use Rattle.magnetar_schedule.proofs.Blocks.{claims-outlined}
 use Rattle.magnetar_schedule.proofs.Counts.{verifier-count}
-use Rattle.magnetar_verifier.specs.Outer.{outerChecksRefusal, outerFound}
+use Rattle.magnetar_verifier.specs.Outer.{checksRefusal, outerFound}
 use Rattle.magnetar_protocol.specs.RunTests.{outlineTests, counterTests, drawTests, proofTests}
 use Rattle.magnetar_verifier.specs.Outer as checked
-use Rattle.magnetar_verifier.specs.End.{endRefusal, endFound}
+use Rattle.magnetar_verifier.specs.End.{endFound}
 use Rattle.magnetar_verifier.specs.Claims.{claimsRefusal, claimsOut}
 use Rattle.magnetar_relation.specs.Rules.{Rules, relationOf}
 use Rattle.magnetar_spartan.specs.Refusals.{rowsBin, rowsFld, sizesOnlyOf, proofWords, claimWords}
 use Rattle.magnetar_spartan.specs.ValidRules.{ValidRules}
-use Rattle.magnetar_spartan.specs.Outcome.{Verified, verifyVerdict, verifyClaims, columnsOf}
-use Rattle.magnetar_spartan.specs.Stages.{drawnWords, runTo, outerAt, endAt, claimsAt, stoppedAt, checkedAt}
+use Rattle.magnetar_spartan.specs.Outcome.{verifyVerdict, verifyClaims, columnsOf}
+use Rattle.magnetar_spartan.specs.Stages.{drawnWords, runTo, outerAt, endAt, claimsAt, Concluded, firstOf, stoppedAt}
 use Rattle.magnetar_spartan.proofs.Ended.{draws-small}
 use Rattle.magnetar_spartan.proofs.PassedTests.{first-refusal-none, same-passes, most-passes, true-passes}
 use Rattle.magnetar_spartan.proofs.SizedRules.{outline-passes}
@@ -81,8 +82,8 @@ module _ (R : Rules) (P : ValidRules R) (x w : List ℕ) (t : Transcript) (proof
   drawn-is = rw play-none
 
   -- ---- the outer checks
-  outer-none : outerChecksRefusal o w d ≡ 0
-  unfolding outerChecksRefusal
+  outer-none : checksRefusal o w d ≡ 0
+  unfolding checksRefusal
   outer-none =
       let l = drawTests o d ++ proofTests o w in
       first-refusal-none (outlineTests (R .m) (R .q) (rowsBin R) (rowsFld R) (R .lengths) ++ l)
@@ -99,26 +100,16 @@ module _ (R : Rules) (P : ValidRules R) (x w : List ℕ) (t : Transcript) (proof
   unfolding outerFound
   first-is = rw (outer-none, outer-checks-are)
 
-  -- ---- the later checks, with a table and the public half in front of s, and claims c
-  module _ (c s : List ℕ) (hc : claimWords R ≤ length c) (hs : 4 * R .m ≤ length s)
-      (table : F .code ≡ 0 → take (R .m) (elements s) ≡ combined (relationOf R) (drawsOf (relationOf R) D))
-      (half : take (R .m / 2) (drop (R .m) (elements s)) ≡ publicFolded (R .q) (R .m / 2) (columnsOf R x) (loginPoint (drawsOf (relationOf R) D))) where
-    end-none : endRefusal o w d s ≡ 0
-    unfolding endRefusal
-    end-none =
-        let l = drawTests o d ++ (roomTest (4 * R .m) s ++ proofTests o w) in
-        first-refusal-none (outlineTests (R .m) (R .q) (rowsBin R) (rowsFld R) (R .lengths) ++ l)
-        (outline-passes R P l (same-passes _ _ draws-many, (most-passes (length s) (4 * R .m) hs, (same-passes _ _ proof-fits, tt))))
-
+  -- ---- the later checks, with the value v of the table, p of the public half, and claims c
+  module _ (c : List ℕ) (v p : ℕ) (hc : claimWords R ≤ length c)
+      (table : F .code ≡ 0 → v ≡ mle (combined (relationOf R) (drawsOf (relationOf R) D)) (drawsOf (relationOf R) D .inner))
+      (half : F .code ≡ 0 → p ≡ mle (publicFolded (R .q) (R .m / 2) (columnsOf R x) (loginPoint (drawsOf (relationOf R) D))) (lowPoint (relationOf R) (drawsOf (relationOf R) D))) where
     abbrev G : Found
-    G = endAt o w d s
+    G = endAt o w d v p
 
     last-is : F .code ≡ 0 → G ≡ firstFound (laterOf R x w t)
     unfolding endFound
-    last-is z =
-        let h = take (R .m / 2) (drop (R .m) (elements s)) in
-        rw (end-none, parts)
-        (ap firstFound (later-is R (columnsOf R x) (elements w) (drawsOf (relationOf R) D) h (take (R .m) (elements s)) half (table z)))
+    last-is z = rw (outer-none, parts) (ap firstFound (later-is R (columnsOf R x) (elements w) (drawsOf (relationOf R) D) v p (table z) (half z)))
 
     claims-none : claimsRefusal (R .m) (R .q) (rowsBin R) (rowsFld R) (R .lengths) w d c ≡ 0
     unfolding claimsRefusal
@@ -133,13 +124,13 @@ module _ (R : Rules) (P : ValidRules R) (x w : List ℕ) (t : Transcript) (proof
         ap (claims o (elements w)) els ∙ ap (λ (r : Relation). claims r (elements w) D) (sym (sizes-are R)) ∙ sym (claims-outlined (relationOf R) (elements w) D)
 
     -- ---- what is left: the number, the transcript and the claims
-    abbrev pub Left : Verified → Type 0
+    abbrev pub Left : Concluded → Type 0
     Left v =
         (v .code ≡ verifyVerdict R x w t) × (v .transcript ≡ verifierTranscript (relationOf R) (columnsOf R x) (elements w) t)
         × (v .claims ≡ verifyClaims R x w t c)
 
     abbrev Stopped : Found → Type 0
-    Stopped g = Left (stoppedAt o w d t (runTo o w t 65536) F g c s)
+    Stopped g = Left (stoppedAt o w d t (runTo o w t 65536) g c)
 
     kept : (n : ℕ) → n ≡ verifyVerdict R x w t → (n ≡ 0 → ⊥) → c ≡ verifyClaims R x w t c
     unfolding verifyClaims
@@ -173,10 +164,10 @@ module _ (R : Rules) (P : ValidRules R) (x w : List ℕ) (t : Transcript) (proof
         let b = answer-none R x w t 65536 (sym (ap (λ (k : Found). k .code) q) ∙ z) (sym (ap (λ (k : Found). k .code) p) ∙ e) (schedule-small R P) in
         rw (eq-eqb (G .code) 0 e, e) (b .0, played-is 65536 ∙ b .1, written (b .0))
 
-    pub checks-leave : Left (checkedAt o w d t (runTo o w t 65536) F c s)
+    pub checks-leave : Left (stoppedAt o w d t (runTo o w t 65536) (firstOf F G) c)
     checks-leave = go (F .code) (G .code) refl refl
       where
-        go : (i j : ℕ) → F .code ≡ i → G .code ≡ j → Left (checkedAt o w d t (runTo o w t 65536) F c s)
+        go : (i j : ℕ) → F .code ≡ i → G .code ≡ j → Left (stoppedAt o w d t (runTo o w t 65536) (firstOf F G) c)
         go (suc i) j e f = let h : F .code ≡ 0 → ⊥ = λ z. omega (arith, e, z) in rw (ne-eqb (F .code) 0 h) (at-outer h)
         go zero (suc j) e f = let h : G .code ≡ 0 → ⊥ = λ z. omega (arith, f, z) in rw (eq-eqb (F .code) 0 e) (at-later e h)
         go zero zero e f = rw (eq-eqb (F .code) 0 e) (at-none e f)

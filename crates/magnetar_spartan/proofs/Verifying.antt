@@ -12,16 +12,17 @@ use Rattle.magnetar_field.proofs.Elements.{words-length, overlaid-same}
 use Rattle.magnetar_hash.specs.declared.transcript.Transcript.{Transcript}
 use Rattle.magnetar_matrix.specs.Batch.{Relation, PublicColumns, publicFolded}
 use Rattle.magnetar_protocol.specs.Shape.{logLogins}
-use Rattle.magnetar_protocol.specs.Proof.{innerRounds, valueZ, terminals}
-use Rattle.magnetar_protocol.specs.Draws.{Draws, drawsOf, drawCount, loginPoint}
+use Rattle.magnetar_multilinear.specs.Multilinear.{mle}
+use Rattle.magnetar_protocol.specs.Proof.{innerRounds, valueZ, terminals, segmentValues}
+use Rattle.magnetar_protocol.specs.Draws.{Draws, drawsOf, drawCount, loginPoint, lowPoint, topElement}
 use Rattle.magnetar_schedule.specs.Schedule.{Event, schedule}
 use Rattle.magnetar_schedule.specs.ScheduleRun.{RunState, runFrom}
-use Rattle.magnetar_protocol.specs.Checks.{Check, firstFailure, firstStop, sharedChecks, rowChecks, terminalChecks, innerChecks, innerClaim, combined}
+use Rattle.magnetar_protocol.specs.Checks.{Check, firstFailure, firstStop, sharedChecks, rowChecks, terminalChecks, innerChecks, identityCheck, innerClaim, combined}
 use Rattle.magnetar_protocol.specs.Run.{verdict}
 use Rattle.magnetar_schedule.specs.RealRun.{verifierDraws, verifierTranscript, stop}
 use Rattle.magnetar_protocol.proofs.Phases.{Numbered}
 use Rattle.magnetar_schedule.proofs.Counts.{played-count, schedule-length}
-use Rattle.magnetar_schedule.proofs.Blocks.{outerChecks, laterChecks, later-numbered, verdict-blocks, run-stop-blocks, stop-append, stop-accepted, outlined, schedule-outlined, draws-outlined, shared-outlined, rows-outlined, terminals-outlined, identity-outlined}
+use Rattle.magnetar_schedule.proofs.Blocks.{outerChecks, laterChecks, later-numbered, verdict-blocks, run-stop-blocks, stop-append, stop-accepted, outlined, schedule-outlined, draws-outlined, shared-outlined, rows-outlined, terminals-outlined}
 use Rattle.magnetar_verifier.specs.End.{endChecks}
 use Rattle.magnetar_relation.specs.Rules.{Rules, relationOf}
 use Rattle.magnetar_field.proofs.Log2.{log₂-lt}
@@ -136,16 +137,16 @@ module _ (R : Rules) (x w : List ℕ) (t : Transcript) where
       whole : (k : ℕ) → length (schedule (sizesOnlyOf R)) ≤ k → after k ≡ runFrom (elements w) (schedule rel) t .transcript
       whole k h = ap (λ (p : RunState). p .transcript) (played-all R (elements w) t k h)
 
--- ---- the later checks, over a table that is the combined one and a half that is the folded one
-end-outlined : (r : Relation) (h w : List ℕ) (D : Draws) (T : List ℕ) → endChecks r h w D T ≡ endChecks (outlined r) h w D T
-unfolding endChecks innerChecks innerClaim innerRounds valueZ terminals
-end-outlined r h w D T = rw (identity-outlined r w D h)
+-- ---- the later checks, by the value of the combined table and that of the folded half
+end-outlined : (r : Relation) (w : List ℕ) (D : Draws) (v p : ℕ) → endChecks r w D v p ≡ endChecks (outlined r) w D v p
+unfolding endChecks innerClaim innerRounds valueZ terminals lowPoint topElement segmentValues
+end-outlined r w D v p = refl
 
-pub later-is : (R : Rules) (x : PublicColumns) (w : List ℕ) (D : Draws) (h T : List ℕ) → h ≡ publicFolded (R .q) (R .m / 2) x (loginPoint D) → T ≡ combined (relationOf R) D
-    → endChecks (sizesOnlyOf R) h w D T ≡ laterChecks (relationOf R) x w D
-later-is R x w D h T eh e =
-    ap (λ (r : Relation). endChecks r h w D T) (sym (sizes-are R)) ∙ sym (end-outlined (relationOf R) h w D T)
-    ∙ unfold endChecks in ap₂ (λ (y z : List ℕ). endChecks (relationOf R) y w D z) eh e
+pub later-is : (R : Rules) (x : PublicColumns) (w : List ℕ) (D : Draws) (v p : ℕ) → v ≡ mle (combined (relationOf R) D) (D .inner)
+    → p ≡ mle (publicFolded (R .q) (R .m / 2) x (loginPoint D)) (lowPoint (relationOf R) D) → endChecks (sizesOnlyOf R) w D v p ≡ laterChecks (relationOf R) x w D
+unfolding endChecks innerChecks identityCheck
+later-is R x w D v p ev ep =
+    ap (λ (r : Relation). endChecks r w D v p) (sym (sizes-are R)) ∙ (sym (end-outlined (relationOf R) w D v p) ∙ ap₂ (endChecks (relationOf R) w D) ev ep)
 
 -- ---- a schedule is short
 pub schedule-small : (R : Rules) → ValidRules R → length (schedule (sizesOnlyOf R)) ≤ 65536

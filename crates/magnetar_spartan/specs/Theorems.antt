@@ -1,12 +1,12 @@
 -- The two theorems on both entries, as their contracts say them, and the laws beside them.
 -- Source: document 01, "The run" (both halves of demand 3); document 02, U3 (a good batch needs no separate premise on bits outside; an
--- accepted proof keeps it).
+-- accepted proof keeps it) and U8 (the number of scratch words that a run may write).
 -- Assumes nothing.
 use mathlib.Core.Path.{_≡_}
 use mathlib.Core.Logic.{_⊎_}
 use mathlib.Core.List.{List}
 use Prim.Native.Nat.{ℕ, _^_, _≤_}
-use lib.ListN.{length, take, replicate}
+use lib.ListN.{length, take, drop, replicate}
 use Rattle.magnetar_field.specs.Words.{elements}
 use Rattle.magnetar_hash.specs.declared.transcript.Transcript.{Transcript}
 use Rattle.magnetar_matrix.specs.Batch.{Batch, NoBitOutside, Good}
@@ -50,6 +50,11 @@ abbrev pub ProvedCall : Rules → (ws x : List ℕ) → Transcript → (w c : Li
 ProvedCall R ws x t w c u = Good (relationOf R) (batchOf R ws) (columnsOf R x) → (c′ s′ : List ℕ)
     → claimWords R ≤ length c′ → verifierScratchOf R ≤ length s′ → AcceptedBy R ws x t w c u c′ s′
 
+-- ---- what a verifying run writes
+-- Of the words s, which become s′, at most the first n are written.
+abbrev pub WritesAtMost : (n : ℕ) → (s s′ : List ℕ) → Type 0
+WritesAtMost n s s′ = (length s′ ≡ length s) × (drop n s′ ≡ drop n s)
+
 -- ---- laws beside them
 -- For any draws (proofs/Sound `verify-sound-any`): wherever the verifier refuses by none of 1 to 16, whatever elements d stand in the place of
 -- the draws, an accepted call says the same of them.
@@ -68,6 +73,12 @@ Unrefused =
     (R : Rules) (ws x : List ℕ) (t : Transcript) (w c s c′ s′ : List ℕ) → AreWords x → proveRefusal R ws x t w c s ≡ 0
     → claimWords R ≤ length c′ → verifierScratchOf R ≤ length s′
     → verifyRefusal R x (take (proofWords R) (proveOutcome R ws x t w c s .proof)) t c′ s′ ≡ 0
+
+-- Of the verifier's scratch (proofs/ScratchBound `scratch-bound`): whatever is lent and whatever the outcome, it writes at most its formula's words.
+-- R are the rules in either form.
+abbrev pub ScratchBound : Type 0
+ScratchBound =
+    (R : Rules) (x w : List ℕ) (t : Transcript) (c s : List ℕ) → WritesAtMost (verifierScratchOf R) s (verifyOutcome R x w t c s .scratch)
 
 -- Of public columns that all logins share (proofs/EqualWords `equal-words`): the public words of one login, lent once for each of q logins, hold
 -- equal columns. What a call says then is what `magnetar_protocol` specs/EqualColumns says of them.

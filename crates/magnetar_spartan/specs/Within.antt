@@ -85,7 +85,7 @@ pub record VerifyWithin (R : Rules) (x w : List ℕ) (t : Transcript) (c s : Lis
   pub counter : t .«squeeze_ctr» < 2 ^ 32
   -- 15
   pub claims : wordsOfClaims R ≤ length c
-  pub scratch : 4 * R .m + 4 * max (rowsBin R) (rowsFld R) + 2 * R .q ≤ length s
+  pub scratch : 2 * R .m + 2 * max (rowsBin R) (rowsFld R) + 2 * R .q ≤ length s
   -- 16
   pub proof : length w ≡ wordsOfProof R
 

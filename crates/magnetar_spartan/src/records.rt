@@ -6,6 +6,8 @@ use crate::proving;
 use crate::refusal;
 use crate::stages;
 use magnetar_batch::combo_records as combo;
+use magnetar_batch::eval_records as eval;
+use magnetar_field::gf128::Gf128;
 use magnetar_hash::transcript::Transcript;
 use magnetar_hash::transcript::TranscriptAnswer;
 use magnetar_records::records::Entry;
@@ -17,14 +19,16 @@ ghost use mathlib.Core.Bool.{cond};
 ghost use mathlib.Core.List.{[]};
 ghost use Prim.Native.Nat.{_/_};
 ghost use lib.Dec.{eqb};
+ghost use Rattle.magnetar_field.specs.Gf128.{value};
 ghost use Rattle.magnetar_records.specs.Records.{entriesOfRecords};
 ghost use Rattle.magnetar_layout.specs.Tests.{firstRefusal};
 ghost use Rattle.magnetar_relation.specs.Rules.{rulesOver, relationOf};
 ghost use Rattle.magnetar_relation.specs.RuleTests.{ruleTests};
 ghost use Rattle.magnetar_spartan.specs.Outcome.{verified, verifiedInPlace, verifyOutcome, proveRefusal, provedInPlace, proveOutcome};
 ghost use Rattle.magnetar_spartan.specs.Products.{ProductLeft, ProductsLeft};
-ghost use Rattle.magnetar_spartan.specs.Table.{tableAt};
-ghost use Rattle.magnetar_spartan.specs.Theorems.{AcceptedCall, ProvedCall};
+ghost use Rattle.magnetar_spartan.specs.Table.{tableAt, tableValue, valueLeft};
+ghost use Rattle.magnetar_spartan.specs.Refusals.{verifierScratchOf};
+ghost use Rattle.magnetar_spartan.specs.Theorems.{AcceptedCall, ProvedCall, WritesAtMost};
 
 // The combined table at the words d of the draws, in front of s.
 pub(crate) fn combine_at(s: &mut [u64], m: usize, q: usize, sh: Shapes, d: [u64; 256], es: &[Entry])
@@ -57,6 +61,26 @@ fn combine_unless(
     }
 }
 
+// The value of the combined table at the inner point, unless n is a refusal or a check that stops the run; then it is 0.
+fn value_at(
+    n: u32,
+    s: &mut [u64],
+    m: usize,
+    q: usize,
+    sh: Shapes,
+    d: [u64; 256],
+    es: &[Entry],
+) -> Gf128
+    ensures { λ r. ⌜ (let R = rulesOver m q [] sh (entriesOfRecords (now (es .entry))) in (value r ≡ tableValue n R d (now (s .entry))) × (now (s .exit) ≡ valueLeft n R d (now (s .entry)))) ⌝ }
+{
+    let al = combine::run_alphas(q, sh, d);
+    let pb = combine::bin_point(q, sh, d);
+    let pf = combine::fld_point(q, sh, d);
+    let y = combine::inner_point(q, sh, d);
+    let r = eval::eval_m_combo(n, s, m, sh, al, pb, pf, y, es);
+    r.value
+}
+
 // The verifier, z being the number of 4 to 7.
 fn verify_with(
     z: u32,
@@ -71,7 +95,7 @@ fn verify_with(
     proof: &[u64],
     t: Transcript,
 ) -> TranscriptAnswer
-    ensures { λ r. ⌜ (let R = rulesOver m q (now (lens .entry)) sh (entriesOfRecords (now (es .entry))) in z ≡ firstRefusal 0 (ruleTests R) → (verified r (now (claims .exit)) (now (scratch .exit)) ≡ verifyOutcome R (now (x .entry)) (now (proof .entry)) t (now (claims .entry)) (now (scratch .entry))) × (r .code ≡ 0 → AcceptedCall R (now (x .entry)) (now (proof .entry)) t (now (claims .exit)))) ⌝ }
+    ensures { λ r. ⌜ (let R = rulesOver m q (now (lens .entry)) sh (entriesOfRecords (now (es .entry))) in z ≡ firstRefusal 0 (ruleTests R) → (verified r (now (claims .exit)) (now (scratch .exit)) ≡ verifyOutcome R (now (x .entry)) (now (proof .entry)) t (now (claims .entry)) (now (scratch .entry))) × WritesAtMost (verifierScratchOf R) (now (scratch .entry)) (now (scratch .exit)) × (r .code ≡ 0 → AcceptedCall R (now (x .entry)) (now (proof .entry)) t (now (claims .exit)))) ⌝ }
 {
     let b = sh.bin;
     let f = sh.fld;
@@ -96,13 +120,16 @@ fn verify_with(
     let g = stages::begin(n, m, q, rb, rf, lens, proof, t);
     let d = stages::draws_of(g);
     let k = stages::code_of(g);
-    let _k = combine_unless(k, scratch, m, q, sh, d, es);
-    stages::finish(n, claims, scratch, m, q, rb, rf, lens, x, proof, t, g)
+    let v = value_at(k, scratch, m, q, sh, d, es);
+    let p = stages::public_unless(k, scratch, m, q, sh, x, d);
+    stages::clear_unless(n, scratch, m, q, rb, rf);
+    stages::finish(n, claims, m, q, rb, rf, lens, proof, t, g, v, p)
 }
 
 // The verifier: 0 where it accepts the proof for these rules, public words and transcript; the transcript moves on; the claims r_inst,
-// r_low and segment values stand at the front of `claims`. 1 to 10: the sizes and the rules; 14: the transcript's counter; 15: too little
-// room; 16: not as many words as a proof has; 21 to 29: the first check that does not pass.
+// r_low and segment values stand at the front of `claims`. Of the scratch at most 2m + 2R + 2q words are written, R being the larger row
+// count; they are 0 at exit. 1 to 10: the sizes and the rules; 14: the transcript's counter; 15: too little room; 16: not as many words
+// as a proof has; 21 to 29: the first check that does not pass.
 pub fn verify_virtual_spartan(
     t: &mut Transcript,
     claims: &mut [u64],
@@ -116,7 +143,7 @@ pub fn verify_virtual_spartan(
     proof: &[u64],
 ) -> u32
     ensures { λ r. ⌜ (let R = rulesOver m q (now (lens .entry)) sh (entriesOfRecords (now (es .entry))) in (verifiedInPlace r (now (t .exit)) (now (claims .exit)) (now (scratch .exit)) ≡ verifyOutcome R (now (x .entry)) (now (proof .entry)) (now (t .entry)) (now (claims .entry)) (now (scratch .entry)))
-        × (r ≡ 0 → AcceptedCall R (now (x .entry)) (now (proof .entry)) (now (t .entry)) (now (claims .exit)))) ⌝ }
+        × WritesAtMost (verifierScratchOf R) (now (scratch .entry)) (now (scratch .exit)) × (r ≡ 0 → AcceptedCall R (now (x .entry)) (now (proof .entry)) (now (t .entry)) (now (claims .exit)))) ⌝ }
 {
     let u = Transcript {
         state: t.state,

@@ -1,25 +1,36 @@
-// The stages of a verifying run that see no matrix: the schedule and the outer checks; then, with the combined table in front of the
-// scratch, the public half behind it, the other checks and the claims.
+// The stages of a verifying run that see no matrix: the schedule and the outer checks; the public half at its points; then, with that and
+// the value of the combined table, the other checks and the claims.
+use crate::combine;
 use crate::proving;
 use crate::refusal;
 use magnetar_batch::fold;
+use magnetar_field::gf128;
+use magnetar_field::gf128::Gf128;
 use magnetar_field::sizes;
 use magnetar_hash::transcript::Transcript;
 use magnetar_hash::transcript::TranscriptAnswer;
+use magnetar_multilinear::eq::EqBits;
+use magnetar_multilinear::multilinear;
 use magnetar_protocol::first::Found;
 use magnetar_prover::schedule_run;
+use magnetar_relation::shapes::Shapes;
 use magnetar_relation::step;
 use magnetar_verifier::claims;
 use magnetar_verifier::end;
 use magnetar_verifier::outer;
 ghost use mathlib.Core.Path.{_≡_};
-ghost use mathlib.Core.List.{[]};
-ghost use Prim.Native.Nat.{_*_, _≤_};
-ghost use lib.ListN.{length};
+ghost use mathlib.Core.Bool.{cond};
+ghost use Prim.Native.Nat.{_+_, _*_, _≤_, max};
+ghost use lib.Dec.{eqb};
+ghost use lib.ListN.{length, take, drop};
+ghost use Rattle.magnetar_field.specs.Gf128.{value};
+ghost use Rattle.magnetar_field.specs.Sizes.{log₂};
+ghost use Rattle.magnetar_field.specs.Words.{elements, words};
+ghost use Rattle.magnetar_layout.specs.Tests.{Sized};
+ghost use Rattle.magnetar_multilinear.specs.Multilinear.{mle};
 ghost use Rattle.magnetar_protocol.specs.Shape.{sizesOnly};
 ghost use Rattle.magnetar_relation.specs.Steps.{clearedTo};
-ghost use Rattle.magnetar_spartan.specs.Outcome.{verified};
-ghost use Rattle.magnetar_spartan.specs.Stages.{runTo, drawnOf, drawnBack, publicHalfBehind, publicHalfAt, outerStageUnless, checkedAt, scratchElements, finishedUnless};
+ghost use Rattle.magnetar_spartan.specs.Stages.{runTo, drawnBack, publicValue, publicLeft, halfValue, halfLeft, outerStageUnless, concluded, checkedAt, finishedUnless};
 ghost use Rattle.magnetar_spartan.specs.Theorems.{AreWords};
 
 // What the first stage hands on: the words of the draws, 0 behind them, the transcript at the end, and what the outer checks found.
@@ -107,8 +118,43 @@ fn stopped(
     }
 }
 
-// The public half folded at the point of the n draws from place k on, which is put into `point`, behind the first 2m words of s.
-fn lay_at(
+// The value at the point p of the table of w elements in front of s, by an eq table behind it.
+fn half_value(s: &mut [u64], w: usize, p: &[u64]) -> Gf128
+    requires { ⌜ Sized 1 32768 w × (4 * w ≤ length (now s)) × (length (now p) ≡ 2 * log₂ w) ⌝ }
+    ensures value { λ r. ⌜ value r ≡ mle (take w (elements (now (s .entry)))) (elements (now (p .entry))) ⌝ }
+    ensures behind { λ _. ⌜ drop (4 * w) (now (s .exit)) ≡ drop (4 * w) (now (s .entry)) ⌝ }
+{
+    let a = 2 * w;
+    let b = 4 * w;
+    EqBits::build(p, gf128::ONE, &mut s[a..b]);
+    multilinear::dot(&s[0..a], &s[a..b])
+}
+
+// The value at the low point in front of y of the public half folded at the point of the logins, by m + q elements of room, which are left 0.
+// Where a size, the public words or the room do not fit it is 0, and nothing changes.
+fn public_value(s: &mut [u64], m: usize, q: usize, x: &[u64], point: &[u64], y: [u64; 32]) -> Gf128
+    ensures { λ r. ⌜ (value r ≡ publicValue m q (now (x .entry)) (now (point .entry)) y (now (s .entry))) × (now (s .exit) ≡ publicLeft m q (now (x .entry)) (now (point .entry)) (now (s .entry))) ⌝ }
+{
+    let h = s.len() / 2;
+    if m > h {
+        return gf128::ZERO;
+    }
+    if q > h - m {
+        return gf128::ZERO;
+    }
+    let w = m / 2;
+    let n = fold::fold_public_in(x, q, w, point, s);
+    if n != 0 {
+        return gf128::ZERO;
+    }
+    let k = 2 * sizes::log2(w);
+    let v = half_value(s, w, &y[0..k]);
+    step::clear_front(m + q, s);
+    v
+}
+
+// The same at the point of the n draws from place k on, which is put into `point`.
+fn public_at(
     s: &mut [u64],
     m: usize,
     q: usize,
@@ -117,35 +163,46 @@ fn lay_at(
     x: &[u64],
     draws: &[u64],
     point: &mut [u64],
-)
+    y: [u64; 32],
+) -> Gf128
     requires { ⌜ (k ≤ 4096) × (n ≤ 16) × (length (now point) ≡ 2 * n) ⌝ }
-    ensures { λ _. ⌜ now (s .exit) ≡ publicHalfBehind m q (now (x .entry)) (drawnBack n k (now (draws .entry))) (now (s .entry)) ⌝ }
+    ensures { λ r. ⌜ (let p = words (drawnBack n k (now (draws .entry))) in (value r ≡ publicValue m q (now (x .entry)) p y (now (s .entry))) × (now (s .exit) ≡ publicLeft m q (now (x .entry)) p (now (s .entry)))) ⌝ }
 {
     proving::login_point(draws, k, n, point);
-    let a = 2 * sizes::least(m, s.len() / 2);
-    let _done = fold::fold_public_in(x, q, m / 2, point, &mut s[a..]);
+    public_value(s, m, q, x, point, y)
 }
 
-// The public half folded at the point of the logins, behind the combined table.
-fn lay_public(s: &mut [u64], m: usize, q: usize, rb: usize, rf: usize, x: &[u64], d: [u64; 256])
-    ensures { λ _. ⌜ now (s .exit) ≡ publicHalfAt (sizesOnly m q rb rf []) (now (x .entry)) d (now (s .entry)) ⌝ }
+// The same at the words d of the draws, unless n is a refusal or a check that stops the run. That x holds words is said here for the entries'
+// theorem.
+pub(crate) fn public_unless(
+    n: u32,
+    s: &mut [u64],
+    m: usize,
+    q: usize,
+    sh: Shapes,
+    x: &[u64],
+    d: [u64; 256],
+) -> Gf128
+    ensures { λ r. ⌜ (value r ≡ cond (eqb n 0) (halfValue m q (sh .bin .a .rows) (sh .fld .a .rows) (now (x .entry)) d (now (s .entry))) 0) × (now (s .exit) ≡ cond (eqb n 0) (halfLeft m q (sh .bin .a .rows) (sh .fld .a .rows) (now (x .entry)) d (now (s .entry))) (now (s .entry))) × AreWords (now (x .entry)) ⌝ }
 {
+    if n != 0 {
+        return gf128::ZERO;
+    }
     let l = sizes::log2(q);
-    let b = sizes::log2(rb);
-    let f = sizes::log2(rf);
+    let b = sizes::log2(sh.bin.a.rows);
+    let f = sizes::log2(sh.fld.a.rows);
     let k = l + b + (l + f);
-    let n = sizes::least(l, 16);
-    let e = 2 * n;
+    let i = sizes::least(l, 16);
+    let e = 2 * i;
+    let y = combine::inner_point(q, sh, d);
     let mut point = [0u64; 32];
-    lay_at(s, m, q, n, k, x, &d, &mut point[0..e]);
+    public_at(s, m, q, i, k, x, &d, &mut point[0..e], y)
 }
 
-// The answer of a run with the words d of the draws, whose outer checks found f and whose transcript ended as u, the table and the public
-// half in front of s; and its claims.
+// The answer of a run with the words of the draws, the findings and the transcript of g, the combined table being v at the inner point and
+// the public half p at the low point; and its claims.
 fn checks(
     claims: &mut [u64],
-    s: &mut [u64],
-    d: [u64; 256],
     m: usize,
     q: usize,
     rb: usize,
@@ -153,16 +210,20 @@ fn checks(
     lens: &[usize],
     proof: &[u64],
     t: Transcript,
-    u: Transcript,
-    f: Found,
+    g: OuterStage,
+    v: Gf128,
+    p: Gf128,
 ) -> TranscriptAnswer
-    ensures { λ r. ⌜ verified r (now (claims .exit)) (now (s .exit)) ≡ (let o = sizesOnly m q rb rf (now (lens .entry)) in checkedAt o (now (proof .entry)) (drawnOf o d) t u f (now (claims .entry)) (now (s .entry))) ⌝ }
+    ensures { λ r. ⌜ concluded r (now (claims .exit)) ≡ checkedAt (sizesOnly m q rb rf (now (lens .entry))) (now (proof .entry)) t g (value v) (value p) (now (claims .entry)) ⌝ }
 {
+    let d = draws_of(g);
+    let u = g.ended;
+    let f = g.found;
     if f.code != 0 {
         return stopped(m, q, rb, rf, lens, proof, t, f);
     }
     let k = sizes::least(refusal::draw_words(m, q, rb, rf), 256);
-    let l = end::end_checks(m, q, rb, rf, lens, proof, &d[0..k], s);
+    let l = end::end_checks(m, q, rb, rf, lens, proof, &d[0..k], v, p);
     if l.code != 0 {
         return stopped(m, q, rb, rf, lens, proof, t, l);
     }
@@ -173,38 +234,41 @@ fn checks(
     }
 }
 
-// Clears the verifier's scratch.
-fn clear_room(m: usize, q: usize, rb: usize, rf: usize, s: &mut [u64])
-    ensures { λ _. ⌜ now (s .exit) ≡ clearedTo (scratchElements (sizesOnly m q rb rf [])) (now (s .entry)) ⌝ }
+// Clears the verifier's scratch, unless n is a refusal.
+pub(crate) fn clear_unless(n: u32, s: &mut [u64], m: usize, q: usize, rb: usize, rf: usize)
+    ensures { λ _. ⌜ now (s .exit) ≡ cond (eqb n 0) (clearedTo (m + max rb rf + q) (now (s .entry))) (now (s .entry)) ⌝ }
 {
+    if n != 0 {
+        return;
+    }
     let k = sizes::larger(rb, rf);
-    let h = s.len() / 4;
+    let h = s.len() / 2;
     if m <= h {
         if k <= h - m {
-            let n = 2 * m + 2 * k;
-            if q <= s.len() / 2 - n {
-                step::clear_front(n + q, s);
+            let i = m + k;
+            if q <= h - i {
+                step::clear_front(i + q, s);
             }
         }
     }
 }
 
-// The second stage, unless n is a refusal; the scratch is 0 at exit. That x and proof hold words is said here for the entries' theorem.
+// The last stage, unless n is a refusal. That proof holds words is said here for the entries' theorem.
 pub(crate) fn finish(
     n: u32,
     claims: &mut [u64],
-    s: &mut [u64],
     m: usize,
     q: usize,
     rb: usize,
     rf: usize,
     lens: &[usize],
-    x: &[u64],
     proof: &[u64],
     t: Transcript,
     g: OuterStage,
+    v: Gf128,
+    p: Gf128,
 ) -> TranscriptAnswer
-    ensures { λ r. ⌜ ((verified r (now (claims .exit)) (now (s .exit)) ≡ finishedUnless n (sizesOnly m q rb rf (now (lens .entry))) (now (x .entry)) (now (proof .entry)) t g (now (claims .entry)) (now (s .entry))) × AreWords (now (x .entry)) × AreWords (now (proof .entry))) ⌝ }
+    ensures { λ r. ⌜ ((concluded r (now (claims .exit)) ≡ finishedUnless n (sizesOnly m q rb rf (now (lens .entry))) (now (proof .entry)) t g (value v) (value p) (now (claims .entry))) × AreWords (now (proof .entry))) ⌝ }
 {
     if n != 0 {
         return TranscriptAnswer {
@@ -212,11 +276,5 @@ pub(crate) fn finish(
             transcript: t,
         };
     }
-    let d = g.draws;
-    let u = g.ended;
-    let f = g.found;
-    lay_public(s, m, q, rb, rf, x, d);
-    let a = checks(claims, s, d, m, q, rb, rf, lens, proof, t, u, f);
-    clear_room(m, q, rb, rf, s);
-    a
+    checks(claims, m, q, rb, rf, lens, proof, t, g, v, p)
 }

@@ -12,11 +12,13 @@ use magnetar_relation::shapes::Shapes;
 ghost use mathlib.Core.Path.{_≡_};
 ghost use Rattle.magnetar_relation.specs.Rules.{rules};
 ghost use Rattle.magnetar_spartan.specs.Outcome.{verified, verifyOutcome, proved, proveOutcome};
-ghost use Rattle.magnetar_spartan.specs.Theorems.{AcceptedCall, ProvedCall};
+ghost use Rattle.magnetar_spartan.specs.Refusals.{verifierScratchOf};
+ghost use Rattle.magnetar_spartan.specs.Theorems.{AcceptedCall, ProvedCall, WritesAtMost};
 
 // The verifier: 0 where it accepts the proof for these rules, public words and transcript; its transcript; and the claims r_inst, r_low
-// and segment values at the front of `claims`. 1 to 10: the sizes and the rules; 14: the transcript's counter; 15: too little room; 16:
-// not as many words as a proof has; 21 to 29: the first check that does not pass.
+// and segment values at the front of `claims`. Of the scratch at most 2m + 2R + 2q words are written, R being the larger row count; they are
+// 0 at exit. 1 to 10: the sizes and the rules; 14: the transcript's counter; 15: too little room; 16: not as many words as a proof has;
+// 21 to 29: the first check that does not pass.
 pub fn verify_virtual_spartan(
     claims: &mut [u64],
     scratch: &mut [u64],
@@ -33,6 +35,7 @@ pub fn verify_virtual_spartan(
     t: Transcript,
 ) -> TranscriptAnswer
     ensures outcome { λ r. ⌜ (let R = rules m q (now (lens .entry)) sh (now (row .entry)) (now (col .entry)) (now (lo .entry)) (now (hi .entry)) in verified r (now (claims .exit)) (now (scratch .exit)) ≡ verifyOutcome R (now (x .entry)) (now (proof .entry)) t (now (claims .entry)) (now (scratch .entry))) ⌝ }
+    ensures bound { λ _. ⌜ (let R = rules m q (now (lens .entry)) sh (now (row .entry)) (now (col .entry)) (now (lo .entry)) (now (hi .entry)) in WritesAtMost (verifierScratchOf R) (now (scratch .entry)) (now (scratch .exit))) ⌝ }
     ensures sound { λ r. ⌜ (let R = rules m q (now (lens .entry)) sh (now (row .entry)) (now (col .entry)) (now (lo .entry)) (now (hi .entry)) in r .code ≡ 0 → AcceptedCall R (now (x .entry)) (now (proof .entry)) t (now (claims .exit))) ⌝ }
 {
     let rb = sh.bin.a.rows;
@@ -52,8 +55,11 @@ pub fn verify_virtual_spartan(
     );
     let g = stages::begin(z, m, q, rb, rf, lens, proof, t);
     let d = stages::draws_of(g);
-    combine::combine_unless(stages::code_of(g), scratch, m, q, sh, d, row, col, lo, hi);
-    stages::finish(z, claims, scratch, m, q, rb, rf, lens, x, proof, t, g)
+    let k = stages::code_of(g);
+    let v = combine::value_at(k, scratch, m, q, sh, d, row, col, lo, hi);
+    let p = stages::public_unless(k, scratch, m, q, sh, x, d);
+    stages::clear_unless(z, scratch, m, q, rb, rf);
+    stages::finish(z, claims, m, q, rb, rf, lens, proof, t, g, v, p)
 }
 
 // The prover: 0, the proof at the front of `out`, the claims r_inst, r_low and segment values at the front of `claims`, and the transcript

@@ -1,6 +1,6 @@
 -- The checks 27 to 29 as they are made are those of the definition.
 -- Assumes nothing.
-use mathlib.Core.Path.{_≡_, refl, sym, ap, ap₂, _∙_}
+use mathlib.Core.Path.{_≡_, sym, ap, ap₂, _∙_}
 use mathlib.Core.Bool.{Bool}
 use mathlib.Core.List.{List, [], _∷_, _++_, append-assoc}
 use Prim.Native.Nat.{ℕ, zero, suc, _+_, _-_, _*_, _/_, _^_, _≤_, _<_}
@@ -9,21 +9,15 @@ use native.Mathlib.Omega.{arith}
 use lib.Dec.{eqb, lit<}
 use lib.ListN.{length, getD, drop, length-drop}
 use lib.Seq.{take-take, take-all}
-use Rattle.magnetar_field.specs.Gf128.{_⊕_, _⊗_}
 use Rattle.magnetar_field.specs.Sizes.{log₂}
-use Rattle.magnetar_field.specs.Tabulate.{tabulate}
-use Rattle.magnetar_multilinear.specs.EqTable.{eqAt}
-use Rattle.magnetar_multilinear.specs.Multilinear.{mle}
 use Rattle.magnetar_field.proofs.Log2.{log₂-pow}
-use Rattle.magnetar_sumcheck_verifier.specs.Round.{running}
 use Rattle.magnetar_sumcheck_verifier.specs.Inner.{innerEnd}
 use Rattle.magnetar_matrix.specs.Batch.{Relation}
-use Rattle.magnetar_layout.specs.Layout.{localVars, suffix}
 use Rattle.magnetar_r1cs.proofs.Points.{log-most}
-use Rattle.magnetar_protocol.specs.Shape.{logLogins, logBin, logFld, logCols, beforeEnd, proofElements, afterAlphas, afterInner}
+use Rattle.magnetar_protocol.specs.Shape.{logLogins, logBin, logFld, logCols, beforeEnd, proofElements}
 use Rattle.magnetar_protocol.specs.Proof.{part, terminals, innerRounds, valueZ, segmentValues}
 use Rattle.magnetar_protocol.specs.Draws.{Draws, drawsOf, lowPoint, topElement}
-use Rattle.magnetar_protocol.specs.Checks.{Check, roundHolds, innerClaim, combined, segmentSum, innerChecks, identityCheck}
+use Rattle.magnetar_protocol.specs.Checks.{Check, roundHolds, innerClaim, segmentSum, identityCheckAt}
 use Rattle.magnetar_layout.specs.Tests.{Sized}
 use Rattle.magnetar_protocol.proofs.Phases.{Numbered, numbered-append, numbered-tabulate}
 use Rattle.magnetar_protocol.specs.declared.first.Found.{Found}
@@ -57,7 +51,7 @@ cols m c P e = go c (P .power ∙ ap (λ (k : ℕ). 2 ^ k) (sym e)) most
         record { pos = omega arith; small = l; half = rw (d, h) (sym (log₂-pow k (omega arith))); even = omega (arith, p, h, two-pow-succ k) }
 
 -- ---- phase by phase
-module _ (r : Relation) (h w d t : List ℕ) (exact : length w ≡ proofElements r) (some : 0 < logCols r) where
+module _ (r : Relation) (w d : List ℕ) (v p : ℕ) (exact : length w ≡ proofElements r) (some : 0 < logCols r) where
   abbrev D : Draws
   D = drawsOf r d
 
@@ -73,66 +67,65 @@ module _ (r : Relation) (h w d t : List ℕ) (exact : length w ≡ proofElements
   abbrev c : ℕ
   c = logCols r
 
-  low-is : lowPoint r D ≡ lowDraws s b f c (r .lengths) h w d t
+  low-is : lowPoint r D ≡ lowDraws s b f c (r .lengths) w d v p
   unfolding lowPoint drawsOf
-  low-is = take-take (c - 1) c (drop (alphasAt s b f c (r .lengths) h w d t + 6) d) (omega arith)
+  low-is = take-take (c - 1) c (drop (alphasAt s b f c (r .lengths) w d v p + 6) d) (omega arith)
 
-  top-is : topElement r D ≡ getD d (alphasAt s b f c (r .lengths) h w d t + 6 + (c - 1)) 0
+  top-is : topElement r D ≡ getD d (alphasAt s b f c (r .lengths) w d v p + 6 + (c - 1)) 0
   unfolding topElement drawsOf
-  top-is = part-get (alphasAt s b f c (r .lengths) h w d t + 6) c (c - 1) d (omega arith)
+  top-is = part-get (alphasAt s b f c (r .lengths) w d v p + 6) c (c - 1) d (omega arith)
 
-  values-are : segmentValues r w ≡ part (terminalsAt s b f c (r .lengths) h w d t + 6 + 3 * c + 1) (length (r .lengths)) w
+  values-are : segmentValues r w ≡ part (terminalsAt s b f c (r .lengths) w d v p + 6 + 3 * c + 1) (length (r .lengths)) w
   unfolding segmentValues
   values-are = sym (take-all (length (r .lengths)) (drop (beforeEnd r + 1) w) (rw length-drop (omega arith)))
 
   abbrev sums : ℕ
-  sums = segmentSum (r .lengths) (lowDraws s b f c (r .lengths) h w d t) 0
-      (part (terminalsAt s b f c (r .lengths) h w d t + 6 + 3 * c + 1) (length (r .lengths)) w)
+  sums = segmentSum (r .lengths) (lowDraws s b f c (r .lengths) w d v p) 0
+      (part (terminalsAt s b f c (r .lengths) w d v p + 6 + 3 * c + 1) (length (r .lengths)) w)
 
   sum-is : segmentSum (r .lengths) (lowPoint r D) 0 (segmentValues r w) ≡ sums
   sum-is = ap₂ (λ (low vs : List ℕ). segmentSum (r .lengths) low 0 vs) low-is values-are
 
-  identity-is : identityCheck r w D h
-      ≡ check 29 (identical (getD d (alphasAt s b f c (r .lengths) h w d t + 6 + (c - 1)) 0) sums
-      (mle h (lowDraws s b f c (r .lengths) h w d t)) (vz s b f c (r .lengths) h w d t))
-      (eventsBefore s b f c (r .lengths) h w d t + 2 * c + 1) ∷ []
-  unfolding identityCheck identical valueZ
-  identity-is = rw (top-is, sum-is, low-is)
+  identity-is : identityCheckAt r w D p
+      ≡ check 29 (identical (getD d (alphasAt s b f c (r .lengths) w d v p + 6 + (c - 1)) 0) sums
+      p (vz s b f c (r .lengths) w d v p))
+      (eventsBefore s b f c (r .lengths) w d v p + 2 * c + 1) ∷ []
+  unfolding identical valueZ
+  identity-is = rw (top-is, sum-is)
 
-  pub end-is : endChecks r h w D t ≡ endPhases s b f c (r .lengths) h w d t
-  unfolding endChecks innerChecks endPhases roundChecks messages innerClaim innerRounds terminals drawsOf valueZ
+  pub end-is : endChecks r w D v p ≡ endPhases s b f c (r .lengths) w d v p
+  unfolding endChecks endPhases roundChecks messages innerClaim innerRounds terminals drawsOf valueZ
   end-is =
-      append-assoc (roundPhase s b f c (r .lengths) h w d t)
-      (check 28 (eqb (lastClaim s b f c (r .lengths) h w d t) (innerEnd (mle t (innerDraws s b f c (r .lengths) h w d t)) (vz s b f c (r .lengths) h w d t)))
-      (eventsBefore s b f c (r .lengths) h w d t + 2 * c) ∷ []) (identityCheck r w D h)
-      ∙ ap₂ (λ (y : Bool) (l : List Check). roundPhase s b f c (r .lengths) h w d t
-      ++ (check 28 y (eventsBefore s b f c (r .lengths) h w d t + 2 * c) ∷ l))
-      (eqb-comm (lastClaim s b f c (r .lengths) h w d t) (innerEnd (mle t (innerDraws s b f c (r .lengths) h w d t)) (vz s b f c (r .lengths) h w d t)))
+      append-assoc (roundPhase s b f c (r .lengths) w d v p)
+      (check 28 (eqb (lastClaim s b f c (r .lengths) w d v p) (innerEnd v (vz s b f c (r .lengths) w d v p)))
+      (eventsBefore s b f c (r .lengths) w d v p + 2 * c) ∷ []) (identityCheckAt r w D p)
+      ∙ ap₂ (λ (y : Bool) (l : List Check). roundPhase s b f c (r .lengths) w d v p
+      ++ (check 28 y (eventsBefore s b f c (r .lengths) w d v p + 2 * c) ∷ l))
+      (eqb-comm (lastClaim s b f c (r .lengths) w d v p) (innerEnd v (vz s b f c (r .lengths) w d v p)))
       identity-is
 
-module _ (s b f c : ℕ) (ns h w d t : List ℕ) where
-  rounds-numbered : Numbered (roundPhase s b f c ns h w d t)
+module _ (s b f c : ℕ) (ns w d : List ℕ) (v p : ℕ) where
+  rounds-numbered : Numbered (roundPhase s b f c ns w d v p)
   unfolding roundChecks
   rounds-numbered = numbered-tabulate 26
-      (λ j. roundHolds (firstClaim s b f c ns h w d t) (messages (terminalsAt s b f c ns h w d t + 6) 3 c w) (innerDraws s b f c ns h w d t) j)
-      (λ j. eventsBefore s b f c ns h w d t + 2 * j) c
+      (λ j. roundHolds (firstClaim s b f c ns w d v p) (messages (terminalsAt s b f c ns w d v p + 6) 3 c w) (innerDraws s b f c ns w d v p) j)
+      (λ j. eventsBefore s b f c ns w d v p + 2 * j) c
 
-  end-numbered : Numbered (endPhases s b f c ns h w d t)
+  end-numbered : Numbered (endPhases s b f c ns w d v p)
   unfolding endPhases
-  end-numbered = numbered-append (roundPhase s b f c ns h w d t) _ rounds-numbered (lit< tt, (lit< tt, tt))
+  end-numbered = numbered-append (roundPhase s b f c ns w d v p) _ rounds-numbered (lit< tt, (lit< tt, tt))
 
   -- what the phases leave
-  pub end-done : (f₁ f₂ f₃ : Found) (claim tv pv : ℕ) (y z : Bool) → f₁ ≡ after nothing (roundPhase s b f c ns h w d t)
-      → claim ≡ lastClaim s b f c ns h w d t → tv ≡ mle t (innerDraws s b f c ns h w d t) → pv ≡ mle h (lowDraws s b f c ns h w d t)
-      → y ≡ eqb (innerEnd tv (vz s b f c ns h w d t)) claim
-      → z ≡ identical (getD d (alphasAt s b f c ns h w d t + 6 + (c - 1)) 0)
-      (segmentSum ns (lowDraws s b f c ns h w d t) 0 (part (terminalsAt s b f c ns h w d t + 6 + 3 * c + 1) (length ns) w)) pv (vz s b f c ns h w d t)
-      → f₂ ≡ nextFound f₁ (check 28 y (eventsBefore s b f c ns h w d t + 2 * c))
-      → f₃ ≡ nextFound f₂ (check 29 z (eventsBefore s b f c ns h w d t + 2 * c + 1)) → f₃ ≡ after nothing (endPhases s b f c ns h w d t)
+  pub end-done : (f₁ f₂ f₃ : Found) (claim : ℕ) (y z : Bool) → f₁ ≡ after nothing (roundPhase s b f c ns w d v p)
+      → claim ≡ lastClaim s b f c ns w d v p → y ≡ eqb (innerEnd v (vz s b f c ns w d v p)) claim
+      → z ≡ identical (getD d (alphasAt s b f c ns w d v p + 6 + (c - 1)) 0)
+      (segmentSum ns (lowDraws s b f c ns w d v p) 0 (part (terminalsAt s b f c ns w d v p + 6 + 3 * c + 1) (length ns) w)) p (vz s b f c ns w d v p)
+      → f₂ ≡ nextFound f₁ (check 28 y (eventsBefore s b f c ns w d v p + 2 * c))
+      → f₃ ≡ nextFound f₂ (check 29 z (eventsBefore s b f c ns w d v p + 2 * c + 1)) → f₃ ≡ after nothing (endPhases s b f c ns w d v p)
   unfolding endPhases
-  end-done f₁ f₂ f₃ claim tv pv y z e₁ ec et ep ey ez e₂ e₃ =
-      rw (e₃, e₂, e₁, ey, ez, ec, et, ep)
-      (sym (after-append nothing (roundPhase s b f c ns h w d t) _ ∙ after-two (after nothing (roundPhase s b f c ns h w d t)) _ _))
+  end-done f₁ f₂ f₃ claim y z e₁ ec ey ez e₂ e₃ =
+      rw (e₃, e₂, e₁, ey, ez, ec)
+      (sym (after-append nothing (roundPhase s b f c ns w d v p) _ ∙ after-two (after nothing (roundPhase s b f c ns w d v p)) _ _))
 
-  pub end-finds : after nothing (endPhases s b f c ns h w d t) ≡ firstFound (endPhases s b f c ns h w d t)
-  end-finds = finds (endPhases s b f c ns h w d t) end-numbered
+  pub end-finds : after nothing (endPhases s b f c ns w d v p) ≡ firstFound (endPhases s b f c ns w d v p)
+  end-finds = finds (endPhases s b f c ns w d v p) end-numbered

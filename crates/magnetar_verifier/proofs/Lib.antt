@@ -4,7 +4,6 @@ pub mod Answers
 pub mod EqParts
 pub mod OuterPhases
 pub mod EqNumbers
-pub mod EndValues
 pub mod EndPhases
 pub mod EndGuard
 pub mod ClaimLaws

@@ -19,7 +19,7 @@ use Rattle.magnetar_protocol.specs.RunTests.{outlineTests, drawTests, proofTest
 use Rattle.magnetar_protocol.specs.declared.first.Found.{Found}
 use Rattle.magnetar_protocol.specs.Found.{nothing, after}
 use Rattle.magnetar_verifier.specs.Steps.{wordTests, outerPhases}
-use Rattle.magnetar_verifier.specs.Outer.{outerChecksRefusal, outerFound}
+use Rattle.magnetar_verifier.specs.Outer.{checksRefusal, outerFound}
 use Rattle.magnetar_verifier.proofs.Guards.{note-none, given}
 use Rattle.magnetar_verifier.proofs.OuterPhases.{outer-found}
 
@@ -34,8 +34,8 @@ module _ (m q b f : ℕ) (ns p d : List ℕ) where
       (note-none 15 (orRefuse 11 (not (eqb (length d) (2 * drawCount (sizesOnly m q b f ns)))) 0))
 
   -- a size or the layout refuses
-  size-is : (z : ℕ) → z ≡ firstRefusal 0 (outlineTests m q b f ns) → (z ≡ 0 → ⊥) → z ≡ outerChecksRefusal (sizesOnly m q b f ns) p d
-  unfolding outerChecksRefusal
+  pub size-is : (z : ℕ) → z ≡ firstRefusal 0 (outlineTests m q b f ns) → (z ≡ 0 → ⊥) → z ≡ checksRefusal (sizesOnly m q b f ns) p d
+  unfolding checksRefusal
   size-is z e h = first-refusal-front (outlineTests m q b f ns) later z e h
 
   pub outer-size : (z : ℕ) → z ≡ firstRefusal 0 (outlineTests m q b f ns) → (z ≡ 0 → ⊥) → record { code = z; events = 0 } ≡ outerFound m q b f ns p d
@@ -44,8 +44,8 @@ module _ (m q b f : ℕ) (ns p d : List ℕ) where
 
   module _ (s₁ b₁ f₁ c₁ z : ℕ) (es : s₁ ≡ log₂ q) (eb : b₁ ≡ log₂ b) (ef : f₁ ≡ log₂ f) (ec : c₁ ≡ log₂ m)
       (ez : z ≡ firstRefusal 0 (wordTests s₁ b₁ f₁ c₁ (length ns) (length p) (length d) 0 0)) (y : ℕ) (ey : y ≡ firstRefusal 0 (outlineTests m q b f ns)) (hy : y ≡ 0) where
-    same : z ≡ outerChecksRefusal (sizesOnly m q b f ns) p d
-    unfolding outerChecksRefusal
+    pub same : z ≡ checksRefusal (sizesOnly m q b f ns) p d
+    unfolding checksRefusal
     same = ez ∙ rw (es, eb, ef, ec) later-is ∙ sym (first-refusal-rest (outlineTests m q b f ns) later y ey hy)
 
     pub outer-refused : (z ≡ 0 → ⊥) → record { code = z; events = 0 } ≡ outerFound m q b f ns p d

@@ -9,7 +9,7 @@ use lib.Dec.{eqb}
 use lib.ListN.{length, getD}
 use Rattle.magnetar_field.specs.Gf128.{_⊕_, _⊗_}
 use Rattle.magnetar_field.specs.Sizes.{log₂}
-use Rattle.magnetar_multilinear.specs.Multilinear.{dot, mle}
+use Rattle.magnetar_multilinear.specs.Multilinear.{dot}
 use Rattle.magnetar_sumcheck_verifier.specs.Round.{running}
 use Rattle.magnetar_sumcheck_verifier.specs.Inner.{innerEnd}
 use Rattle.magnetar_layout.specs.Layout.{LayoutFits}
@@ -25,7 +25,7 @@ use Rattle.magnetar_verifier.specs.Steps.{messages, roundChecks}
 unfoldable pub identical : (top a p v : ℕ) → Bool
 identical top a p v = eqb ((1 ⊕ top) ⊗ a ⊕ top ⊗ p) v
 
-module _ (s b f c : ℕ) (ns h w d table : List ℕ) where
+module _ (s b f c : ℕ) (ns w d : List ℕ) (v p : ℕ) where
   -- the place of the alphas among the draws
   abbrev pub alphasAt : ℕ
   alphasAt = s + b + (s + f) + s + b + f
@@ -62,14 +62,14 @@ module _ (s b f c : ℕ) (ns h w d table : List ℕ) where
   abbrev pub roundPhase : List Check
   roundPhase = roundChecks 27 eventsBefore firstClaim (messages (terminalsAt + 6) 3 c w) innerDraws c
 
-  -- these, then the terminal and the identity of v_z, with the half h of the public columns
+  -- these, then the terminal, with the value v of the table, and the identity of v_z, with the value p of the public half
   unfoldable pub endPhases : List Check
   endPhases =
       roundPhase
-      ++ (check 28 (eqb (innerEnd (mle table innerDraws) vz) lastClaim) (eventsBefore + 2 * c)
+      ++ (check 28 (eqb (innerEnd v vz) lastClaim) (eventsBefore + 2 * c)
       ∷ check 29
       (identical (getD d (alphasAt + 6 + (c - 1)) 0)
-      (segmentSum ns lowDraws 0 (part (terminalsAt + 6 + 3 * c + 1) (length ns) w)) (mle h lowDraws) vz)
+      (segmentSum ns lowDraws 0 (part (terminalsAt + 6 + 3 * c + 1) (length ns) w)) p vz)
       (eventsBefore + 2 * c + 1)
       ∷ [])
 

@@ -18,13 +18,14 @@ unfoldable pub outerChecks : Relation → List ℕ → Draws → List Check
 outerChecks r w D = sharedChecks r w D 0 (logLogins r) ++ (rowChecks r w D ++ terminalChecks r w D)
 
 -- ---- `outer_checks`: a relation r by its sizes, the words of a proof and of draws
-unfoldable pub outerChecksRefusal : Relation → List ℕ → List ℕ → ℕ
-outerChecksRefusal r proof draws =
+-- the number of the refusal, the same one for `end_checks`
+unfoldable pub checksRefusal : Relation → (proof draws : List ℕ) → ℕ
+checksRefusal r proof draws =
     firstRefusal 0
     (outlineTests (r .m) (r .q) (r .bin .a .rows) (r .fld .a .rows) (r .lengths) ++ (drawTests r draws ++ proofTests r proof))
 
 -- the first check that does not pass, unless a test refuses
 unfoldable pub outerFound : (m q rowsBin rowsFld : ℕ) → List ℕ → List ℕ → List ℕ → Found
 outerFound m q b f ns proof draws =
-    unlessBad (outerChecksRefusal (sizesOnly m q b f ns) proof draws)
+    unlessBad (checksRefusal (sizesOnly m q b f ns) proof draws)
     (firstFound (outerChecks (sizesOnly m q b f ns) (elements proof) (drawsOf (sizesOnly m q b f ns) (elements draws))))

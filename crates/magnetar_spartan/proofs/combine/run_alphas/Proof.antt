@@ -1,24 +1,15 @@
 -- `magnetar_spartan::combine::run_alphas` meets its contract.
 -- Assumes nothing.
-use mathlib.Core.Path.{_≡_, ap, _∙_}
-use Prim.Native.Nat.{ℕ, _+_, _*_}
-use Rattle.magnetar_spartan.specs.Table.{alphasAt, window}
+use mathlib.Core.Path.{ap, _∙_}
+use Prim.Native.Nat.{ℕ}
+use Rattle.magnetar_spartan.specs.Table.{window}
 use Rattle.magnetar_spartan.proofs.StageLaws.{window-is}
 use borrow.Author.Needs.{needs}
 use Rattle.magnetar_spartan.proofs.combine.run_alphas.Statement.{statement}
 use Rattle.magnetar_spartan.proofs.combine.run_alphas.Tie as tie
 
-fld-at-requires : tie.Need-fld-at-requires
-fld-at-requires c κs = search needs
-
-log2-requires : tie.Need-log2-requires
-log2-requires c κs = search needs
-
-mul-k : tie.Need-mul-k
-mul-k c = search needs
-
-add-k : tie.Need-add-k
-add-k c = search needs
+alphas-at-requires : tie.Need-alphas-at-requires
+alphas-at-requires c κs = search needs
 
 least-requires : tie.Need-least-requires
 least-requires c κs = search needs
@@ -26,46 +17,44 @@ least-requires c κs = search needs
 add-e : tie.Need-add-e
 add-e c = search needs
 
-mul-alphas12 : tie.Need-mul-alphas12
-mul-alphas12 c = search needs
+mul-copy : tie.Need-mul-copy
+mul-copy c = search needs
 
-sub-alphas12 : tie.Need-sub-alphas12
-sub-alphas12 c = search needs
+sub-copy : tie.Need-sub-copy
+sub-copy c = search needs
 
-part-alphas12-start : tie.Need-part-alphas12-start
-part-alphas12-start c = search needs
+part-copy-start : tie.Need-part-copy-start
+part-copy-start c = search needs
 
-part-alphas12-end : tie.Need-part-alphas12-end
-part-alphas12-end c = search needs
+part-copy-end : tie.Need-part-copy-end
+part-copy-end c = search needs
 
-alphas12-requires : tie.Need-alphas12-requires
-alphas12-requires c κs = search needs
+slice-aggregate-copy : tie.Need-slice-aggregate-copy
+slice-aggregate-copy c = search needs
+
+copy-requires : tie.Need-copy-requires
+copy-requires c κs = search needs
 
 returns : tie.Need-returns
 returns c =
-    let r = c in
-    let a = r .before .before .before in
-    let l = a .before in
-    let f = l .before in
-    let s = f .before in
-    let x = s .args in
-    let k = f .fld-at .result + 2 * l .log2 .result in
-    let e : k ≡ alphasAt (x .q) (x .sh .bin .a .rows) (x .sh .fld .a .rows) = rw (f .fld-at .ensures .0, l .log2 .ensures .0) in
-    window-is 12 k (a .least .result) (x .t3) _ (a .least .ensures .0) (r .alphas12 .ensures) ∙ ap (λ (i : ℕ). window 12 i (x .t3)) e
+    let w = c .before .copy in
+    let a = c .before .before .before .before .before in
+    let k = a .before in
+    let x = k .before .args in
+    window-is 12 (k .alphas-at .result) (a .least .result) (x .t3) _ (a .least .ensures .0) (w .ensures)
+    ∙ ap (λ (i : ℕ). window 12 i (x .t3)) (k .alphas-at .ensures .0)
 
 pub run-alphas-spec : {M : Type 1} → statement M
 run-alphas-spec =
     tie.close
     (tie.spec
-    fld-at-requires
-    log2-requires
-    mul-k
-    add-k
+    alphas-at-requires
     least-requires
     add-e
-    mul-alphas12
-    sub-alphas12
-    part-alphas12-start
-    part-alphas12-end
-    alphas12-requires
+    mul-copy
+    sub-copy
+    part-copy-start
+    part-copy-end
+    slice-aggregate-copy
+    copy-requires
     returns)

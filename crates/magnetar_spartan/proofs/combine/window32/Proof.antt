@@ -11,27 +11,30 @@ least-requires c κs = search needs
 add-e : tie.Need-add-e
 add-e c = search needs
 
-mul-point32 : tie.Need-mul-point32
-mul-point32 c = search needs
+mul-copy : tie.Need-mul-copy
+mul-copy c = search needs
 
-sub-point32 : tie.Need-sub-point32
-sub-point32 c = search needs
+sub-copy : tie.Need-sub-copy
+sub-copy c = search needs
 
-part-point32-start : tie.Need-part-point32-start
-part-point32-start c = search needs
+part-copy-start : tie.Need-part-copy-start
+part-copy-start c = search needs
 
-part-point32-end : tie.Need-part-point32-end
-part-point32-end c = search needs
+part-copy-end : tie.Need-part-copy-end
+part-copy-end c = search needs
 
-point32-requires : tie.Need-point32-requires
-point32-requires c κs = search needs
+slice-aggregate-copy : tie.Need-slice-aggregate-copy
+slice-aggregate-copy c = search needs
+
+copy-requires : tie.Need-copy-requires
+copy-requires c κs = search needs
 
 returns : tie.Need-returns
 returns c =
-    let r = c in
-    let a = r .before .before .before in
+    let w = c .before .copy in
+    let a = c .before .before .before .before .before in
     let s = a .before in
-    window-is 32 (s .args .k) (a .least .result) (s .args .t2) _ (a .least .ensures .0) (r .point32 .ensures)
+    window-is 32 (s .args .k) (a .least .result) (s .args .t2) _ (a .least .ensures .0) (w .ensures)
 
 pub window32-spec : {M : Type 1} → statement M
 window32-spec =
@@ -39,9 +42,10 @@ window32-spec =
     (tie.spec
     least-requires
     add-e
-    mul-point32
-    sub-point32
-    part-point32-start
-    part-point32-end
-    point32-requires
+    mul-copy
+    sub-copy
+    part-copy-start
+    part-copy-end
+    slice-aggregate-copy
+    copy-requires
     returns)

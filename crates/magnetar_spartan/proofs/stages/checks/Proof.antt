@@ -1,10 +1,10 @@
 -- `magnetar_spartan::stages::checks` meets its contract.
 -- Assumes nothing.
-use mathlib.Core.Path.{_≡_}
-use mathlib.Core.List.{List}
-use Prim.Native.Nat.{ℕ, _-_}
+use mathlib.Core.Path.{_≡_, ap, _∙_}
+use Prim.Native.Nat.{_-_}
 use lib.ListN.{take}
 use denote.Ref.{now}
+use Rattle.magnetar_field.specs.Gf128.{value}
 use Rattle.magnetar_matrix.specs.Batch.{Relation}
 use Rattle.magnetar_protocol.specs.Shape.{sizesOnly}
 use Rattle.magnetar_spartan.specs.Stages.{drawnOf}
@@ -17,27 +17,26 @@ abbrev o : tie.Start → Relation
 o s = let x = s .args in sizesOnly (x .m) (x .q) (x .rb) (x .rf) (now (x .lens))
 
 -- the words of the draws that the checks look at
-abbrev d : tie.Start → List ℕ
-d s = drawnOf (o s) (s .args .t3)
-
-part : (c : tie.After-least) → take (c .least .result - 0) ((c .before .before .before .before .before .before .before .before) .args .t3) ≡
-    d (c .before .before .before .before .before .before .before .before)
+part : (c : tie.After-least) → let k = c .before .before in let s = k .before .before .before .before .before .before .before .before in take (c .least .result - 0) (k .before .before .before .before .draws-of .result) ≡ drawnOf (o s) (s .args .g .draws)
 part c =
     let w = c .before in
-    let s = w .before .before .before .before .before .before .before in
-    part-is (o s) (w .draw-words .result) (c .least .result) (s .args .t3) (c .least .ensures .0) (w .draw-words .ensures)
+    let k = w .before in
+    let s = k .before .before .before .before .before .before .before .before in
+    let d = k .before .before .before .before in
+    part-is (o s) (w .draw-words .result) (c .least .result) (d .draws-of .result) (c .least .ensures .0) (w .draw-words .ensures) ∙ ap (drawnOf (o s)) (d .draws-of .ensures)
+
+draws-of-requires : tie.Need-draws-of-requires
+draws-of-requires c κs = search needs
 
 stopped-requires : tie.Need-stopped-requires
 stopped-requires c κs = search needs
 
 returns : tie.Need-returns
 returns c =
-    let a = c in
-    let i = a .before in
-    let s = i .before .before .before .before .before .before in
+    let i = c .before in
+    let s = i .before .before .before .before .before .before .before .before in
     let x = s .args in
-    stop-first (o s) (now (x .proof)) (d s) (x .t) (x .u) (x .f) (now (x .claims)) (now (x .s)) (a .stopped .result)
-    (i .if1 .taken) (a .stopped .ensures)
+    (stop-first (o s) (now (x .proof)) (x .t) (x .g) (value (x .v)) (value (x .p)) (now (x .claims)) (c .stopped .result) (i .if1 .taken) (c .stopped .ensures))
 
 draw-words-requires : tie.Need-draw-words-requires
 draw-words-requires c κs = search needs
@@ -60,21 +59,16 @@ end-checks-requires c κs = search needs
 stopped-requires-2 : tie.Need-stopped-requires-2
 stopped-requires-2 c κs = search needs
 
-same-length : tie.Need-same-length
-same-length c = search needs
-
 returns-2 : tie.Need-returns-2
 returns-2 c =
-    let a = c in
-    let j = a .before in
-    let e = j .before .before .before .before in
-    let l = e .before .before .before .before in
+    let j = c .before in
+    let e = j .before .before in
+    let l = e .before .before .before in
     let i = l .before .before in
-    let s = i .before .before .before .before .before .before in
+    let s = i .before .before .before .before .before .before .before .before in
     let x = s .args in
-    let k = e .end-checks in
-    stop-later (o s) (now (x .proof)) (d s) (x .t) (x .u) (x .f) (now (x .claims)) (now (x .s)) _ (d s) (k .result) _ (i .if1 .left)
-    (part l) (k .ensures) (a .stopped2 .result) (j .if2 .taken) (a .stopped2 .ensures)
+    stop-later (o s) (now (x .proof)) (x .t) (x .g) (value (x .v)) (value (x .p)) (now (x .claims)) _ (e .end-checks .result) (i .if1 .left)
+    (part l) (e .end-checks .ensures) (c .stopped2 .result) (j .if2 .taken) (c .stopped2 .ensures)
 
 sub-write-claims : tie.Need-sub-write-claims
 sub-write-claims c = search needs
@@ -88,29 +82,26 @@ part-write-claims-end c = search needs
 write-claims-requires : tie.Need-write-claims-requires
 write-claims-requires c κs = search needs
 
-same-length-2 : tie.Need-same-length-2
-same-length-2 c = search needs
-
-same-length-3 : tie.Need-same-length-3
-same-length-3 c = search needs
+same-length : tie.Need-same-length
+same-length c = search needs
 
 returns-3 : tie.Need-returns-3
 returns-3 c =
     let w = c .before .before in
     let j = w .before .before .before .before in
-    let e = j .before .before .before .before in
-    let l = e .before .before .before .before in
+    let e = j .before .before in
+    let l = e .before .before .before in
     let i = l .before .before in
-    let s = i .before .before .before .before .before .before in
+    let s = i .before .before .before .before .before .before .before .before in
     let x = s .args in
-    let k = e .end-checks in
-    stop-none (o s) (now (x .proof)) (d s) (x .t) (x .u) (x .f) (now (x .claims)) (now (x .s)) _ _ (k .result) _ (i .if1 .left)
-    (part l) (k .ensures) _ (j .if2 .left) (part l) (w .write-claims .ensures .1)
+    stop-none (o s) (now (x .proof)) (x .t) (x .g) (value (x .v)) (value (x .p)) (now (x .claims)) _ (e .end-checks .result) (i .if1 .left)
+    (part l) (e .end-checks .ensures) _ _ (j .if2 .left) (part l) (w .write-claims .ensures .1)
 
 pub checks-spec : {M : Type 1} → statement M
 checks-spec =
     tie.close
     (tie.spec
+    draws-of-requires
     stopped-requires
     returns
     draw-words-requires
@@ -120,12 +111,10 @@ checks-spec =
     part-end-checks-end
     end-checks-requires
     stopped-requires-2
-    same-length
     returns-2
     sub-write-claims
     part-write-claims-start
     part-write-claims-end
     write-claims-requires
-    same-length-2
-    same-length-3
+    same-length
     returns-3)

@@ -1,12 +1,11 @@
 -- `magnetar_verifier::end::end_checks` meets its contract.
 -- Assumes nothing.
 use denote.Ref.{now}
-use Prim.Native.Nat.{_*_, _^_, _≤_, _<_}
-use native.Mathlib.Omega.{arith}
-use lib.ListN.{length, length-take}
+use Prim.Native.Nat.{_^_, _<_}
+use Rattle.magnetar_field.specs.Gf128.{value}
 use Rattle.magnetar_protocol.proofs.Guards.{Outlined, outlined-given}
 use Rattle.magnetar_verifier.proofs.Guards.{log-small}
-use Rattle.magnetar_verifier.proofs.EndGuard.{end-front, end-refused, end-fits, end-room, end-answered}
+use Rattle.magnetar_verifier.proofs.EndGuard.{end-front, end-refused, end-fits, end-answered}
 use borrow.Author.Needs.{needs}
 use Rattle.magnetar_verifier.proofs.end.end_checks.Statement.{statement}
 use Rattle.magnetar_verifier.proofs.end.end_checks.Tie as tie
@@ -16,8 +15,8 @@ outline-refusal-requires c κs = search needs
 
 returns : tie.Need-returns
 returns c =
-    let x = c .before .before .before .before .before .before .args in
-    end-front (x .m) (x .q) (x .rb) (x .rf) (now (x .lens)) (now (x .proof)) (now (x .draws)) (now (x .s)) (c .before .outline-refusal .result)
+    let x = c .before .before .before .before .before .args in
+    end-front (x .m) (x .q) (x .rb) (x .rf) (now (x .lens)) (now (x .proof)) (now (x .draws)) (value (x .v)) (value (x .p)) (c .before .outline-refusal .result)
     (c .before .outline-refusal .ensures) (c .if1 .taken)
 
 log2-requires : tie.Need-log2-requires
@@ -46,21 +45,18 @@ m-word : (s : tie.Start) → s .args .m < 2 ^ 64
 m-word s = search needs
 
 -- what the first tests leave
-sizes : (c : tie.After-log24) → let x = c .before .before .before .before .before .before .before .before .before .before .args in Outlined (x .m) (x .q) (x .rb) (x .rf) (now (x .lens))
+sizes : (c : tie.After-log24) → let x = c .before .before .before .before .before .before .before .before .before .args in Outlined (x .m) (x .q) (x .rb) (x .rf) (now (x .lens))
 sizes c =
     let a = c .before .before .before in
-    let x = a .before .before .before .before .before .before .before .args in
+    let x = a .before .before .before .before .before .before .args in
     outlined-given (x .m) (x .q) (x .rb) (x .rf) (now (x .lens)) _ (a .before .before .outline-refusal .ensures) (a .before .if1 .left)
-
-mul-n : tie.Need-mul-n
-mul-n c = omega (arith, sizes c .counts .columns .high)
 
 words-refusal-requires : tie.Need-words-refusal-requires
 words-refusal-requires c κs =
     let f = c .before in
     let b = f .before in
     let a = b .before in
-    let t = a .before .before .before .before .before .before .before in
+    let t = a .before .before .before .before .before .before in
     let x = t .args in (
       log-small (x .q) (a .log2 .result) (a .log2 .ensures .0) (q-word t),
       log-small (x .rb) (b .log22 .result) (b .log22 .ensures .0) (rb-word t),
@@ -76,65 +72,39 @@ returns-2 c =
     let f = k .before in
     let b = f .before in
     let a = b .before in
-    let x = a .before .before .before .before .before .before .before .args in
-    end-refused (x .m) (x .q) (x .rb) (x .rf) (now (x .lens)) (now (x .proof)) (now (x .draws)) (now (x .s)) (a .log2 .result) (b .log22 .result)
+    let x = a .before .before .before .before .before .before .args in
+    end-refused (x .m) (x .q) (x .rb) (x .rf) (now (x .lens)) (now (x .proof)) (now (x .draws)) (value (x .v)) (value (x .p)) (a .log2 .result) (b .log22 .result)
     (f .log23 .result) (k .log24 .result) (z .words-refusal .result) (a .log2 .ensures .0) (b .log22 .ensures .0) (f .log23 .ensures .0) (k .log24 .ensures .0)
     (z .words-refusal .ensures) (a .before .before .outline-refusal .result) (a .before .before .outline-refusal .ensures)
     (a .before .if1 .left) (c .if2 .taken)
 
--- the room is enough
-enough : (c : tie.Else2) → let x = c .before .before .before .before .before .before .before .before .before .before .before .before .args in 4 * x .m ≤ length (now (x .s))
-enough c =
+end-phases-requires : tie.Need-end-phases-requires
+end-phases-requires c κs =
     let z = c .before in
     let k = z .before in
     let f = k .before in
     let b = f .before in
     let a = b .before in
-    let x = a .before .before .before .before .before .before .before .args in
-    end-room (x .m) (x .q) (x .rb) (x .rf) (now (x .lens)) (now (x .proof)) (now (x .draws)) (now (x .s)) (a .log2 .result) (b .log22 .result)
+    let x = a .before .before .before .before .before .before .args in
+    let r = words-refusal-requires k tt in
+    end-fits (x .m) (x .q) (x .rb) (x .rf) (now (x .lens)) (now (x .proof)) (now (x .draws)) (value (x .v)) (value (x .p)) (a .log2 .result) (b .log22 .result)
     (f .log23 .result) (k .log24 .result) (z .words-refusal .result) (a .log2 .ensures .0) (b .log22 .ensures .0) (f .log23 .ensures .0) (k .log24 .ensures .0)
     (z .words-refusal .ensures) (a .before .before .outline-refusal .result) (a .before .before .outline-refusal .ensures)
-    (a .before .if1 .left) (c .if2 .left)
-
-slice-relend-prefix-end-phases : tie.Need-slice-relend-prefix-end-phases
-slice-relend-prefix-end-phases c = omega (arith, enough c)
-
-slice-aggregate-end-phases : tie.Need-slice-aggregate-end-phases
-slice-aggregate-end-phases c = rw length-take (omega (arith, enough (c .before)))
-
-end-phases-requires : tie.Need-end-phases-requires
-end-phases-requires c κs =
-    let z = c .before .before in
-    let k = z .before in
-    let f = k .before in
-    let b = f .before in
-    let a = b .before in
-    let x = a .before .before .before .before .before .before .before .args in
-    let r = words-refusal-requires k tt in (
-      end-fits (x .m) (x .q) (x .rb) (x .rf) (now (x .lens)) (now (x .proof)) (now (x .draws)) (now (x .s)) (a .log2 .result) (b .log22 .result)
-          (f .log23 .result) (k .log24 .result) (z .words-refusal .result) (a .log2 .ensures .0) (b .log22 .ensures .0) (f .log23 .ensures .0) (k .log24 .ensures .0)
-          (z .words-refusal .ensures) (a .before .before .outline-refusal .result) (a .before .before .outline-refusal .ensures)
-          (a .before .if1 .left) (c .before .if2 .left) (r .0) (r .1) (r .2),
-      rw length-take (omega (arith, enough (c .before))),
-    )
-
-same-length : tie.Need-same-length
-same-length c = search needs
+    (a .before .if1 .left) (c .if2 .left) (r .0) (r .1) (r .2)
 
 returns-3 : tie.Need-returns-3
 returns-3 c =
-    let e = c .before .before in
-    let z = e .before .before .before in
+    let e = c .before in
+    let z = e .before in
     let k = z .before in
     let f = k .before in
     let b = f .before in
     let a = b .before in
-    let x = a .before .before .before .before .before .before .before .args in
-    end-answered (x .m) (x .q) (x .rb) (x .rf) (now (x .lens)) (now (x .proof)) (now (x .draws)) (now (x .s)) (a .log2 .result) (b .log22 .result)
+    let x = a .before .before .before .before .before .before .args in
+    end-answered (x .m) (x .q) (x .rb) (x .rf) (now (x .lens)) (now (x .proof)) (now (x .draws)) (value (x .v)) (value (x .p)) (a .log2 .result) (b .log22 .result)
     (f .log23 .result) (k .log24 .result) (z .words-refusal .result) (a .log2 .ensures .0) (b .log22 .ensures .0) (f .log23 .ensures .0) (k .log24 .ensures .0)
     (z .words-refusal .ensures) (a .before .before .outline-refusal .result) (a .before .before .outline-refusal .ensures)
-    (a .before .if1 .left) (e .before .before .if2 .left) (e .end-phases .result) (e .end-phases .last .1 .1 .1 .1 .0) (e .end-phases .ensures .0)
-    (e .end-phases .ensures .1)
+    (a .before .if1 .left) (e .if2 .left) (c .end-phases .result) (c .end-phases .ensures)
 
 pub end-checks-spec : {M : Type 1} → statement M
 end-checks-spec =
@@ -146,11 +116,7 @@ end-checks-spec =
     log2-requires-2
     log2-requires-3
     log2-requires-4
-    mul-n
     words-refusal-requires
     returns-2
-    slice-relend-prefix-end-phases
-    slice-aggregate-end-phases
     end-phases-requires
-    same-length
     returns-3)

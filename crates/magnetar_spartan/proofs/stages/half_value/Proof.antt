@@ -1,13 +1,11 @@
--- `magnetar_verifier::end::table_value` meets its contract.
+-- `magnetar_spartan::stages::half_value` meets its contract.
 -- Assumes nothing.
-use denote.Ref.{now}
-use Prim.Native.Nat.{_*_, _-_}
-use borrow.Rule.Slice.PartMut.{postOf}
-use Rattle.magnetar_verifier.proofs.EndValues.{table-is}
 use mathlib.Core.Path.{_∙_}
+use denote.Ref.{now}
+use Rattle.magnetar_spartan.proofs.PublicValue.{front-dot, front-behind}
 use borrow.Author.Needs.{needs}
-use Rattle.magnetar_verifier.proofs.end.table_value.Statement.{statement}
-use Rattle.magnetar_verifier.proofs.end.table_value.Tie as tie
+use Rattle.magnetar_spartan.proofs.stages.half_value.Statement.{statement}
+use Rattle.magnetar_spartan.proofs.stages.half_value.Tie as tie
 
 mul-a : tie.Need-mul-a
 mul-a c = search needs
@@ -59,14 +57,16 @@ same-length c = search needs
 
 returns : tie.Need-returns
 returns c =
-    let t = c .before .before .before in
-    let u = t .before .before .before in
-    let x = u .before .before .before .before .args in
-    c .dot .ensures ∙ table-is (x .m) (now (x .s)) (now (x .point)) (u .build .last .1 .1 .0) (postOf (2 * x .m) (4 * x .m - 2 * x .m) (now (x .s)))
-    (u .before .before .before .before .pre .0) (u .before .before .before .before .pre .1 .0) (u .before .before .before .before .pre .1 .1) (u .build .ensures .1)
+    let b = c .before .before .before .before .before .before in
+    let s = b .before .before .before .before in
+    let x = s .args in
+    let g = s .pre in (
+      c .dot .ensures ∙ front-dot (x .w) (now (x .s)) (now (x .p)) (b .build .last .1 .1 .0) (g .0) (g .1) (g .2) (b .build .ensures .1),
+      front-behind (x .w) (now (x .s)) (now (x .p)) (b .build .last .1 .1 .0) (g .0) (g .1) (g .2) (b .build .ensures .1),
+    )
 
-pub table-value-spec : {M : Type 1} → statement M
-table-value-spec =
+pub half-value-spec : {M : Type 1} → statement M
+half-value-spec =
     tie.close
     (tie.spec
     mul-a
