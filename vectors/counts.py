@@ -16,7 +16,8 @@ HASH = "sha3 sha3rep parts partslens new newlens absorb absorbfield absorbwords 
 SUMCHECK = "outer inner round capture outerend innerend eqpoints eqnext outermsg innermsg dropvar"
 MATRIX = "isbinary apply packed table at foldinst foldw foldx layout reading segment"
 # How many lines an answer has; that of `checks` says it itself.
-LINES = {"combo": 2, "masks": 1, "check": 2, "digest": 1, "prove": 4, "verify": 3, "checks": None}
+LINES = {"combo": 2, "value": 2, "masks": 1, "check": 2, "digest": 1, "prove": 4, "verify": 3, "checks": None}
+# `rooms` is so many runs of the verifier as it has numbers of words, and is counted as these
 
 
 def lines(crate, name):
@@ -69,16 +70,24 @@ def relations():
         elif op == "#":
             at += 1
         else:
-            all_[op] += 1
-            if answers[at] == "alone":
-                alone[op] += 1
-                at += 1
-            code, length = found(answers[at:]) if op == "checks" else (number(answers[at]), LINES[op])
-            codes[op][code] += 1
-            verdicts[answers[at].split()[1] if op == "check" else None] += code == 0
-            at += length
+            op, times = ("verify", lengths(query)) if op == "rooms" else (op, 1)
+            for _ in range(times):
+                all_[op] += 1
+                if answers[at] == "alone":
+                    alone[op] += 1
+                    at += 1
+                code, length = found(answers[at:]) if op == "checks" else (number(answers[at]), LINES[op])
+                codes[op][code] += 1
+                verdicts[answers[at].split()[1] if op == "check" else None] += code == 0
+                at += length
     assert at == len(answers)
     return cases, own, all_, alone, codes, verdicts
+
+
+def lengths(query):
+    """How many numbers of words a line `rooms` has: its second list."""
+    words = query.split()[4:]
+    return int(words[1 + int(words[0])])
 
 
 def columns():

@@ -29,7 +29,7 @@ const BIN: usize = 16;
 const FLD: usize = 4;
 
 // How many words of scratch the verifier and the prover of the vault ask for.
-pub(crate) const VERIFIER_SCRATCH: usize = 4 * M + 4 * BIN + 2 * Q;
+pub(crate) const VERIFIER_SCRATCH: usize = 2 * M + 2 * BIN + 2 * Q;
 
 pub(crate) const PROVER_SCRATCH: usize = 8 * Q * (BIN + FLD) + 8 * M + 4 * BIN + 6 * Q;
 

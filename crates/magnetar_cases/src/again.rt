@@ -1,5 +1,7 @@
 // The same calls over records, on words of their own: each says whether all that it hands back is what the core did. Where the entries
 // cannot be records each writes a line `alone`, and nothing is compared.
+use crate::checks::thirty_two;
+use crate::checks::twelve;
 use crate::lent;
 use crate::text::MARK;
 use crate::text::at;
@@ -7,7 +9,9 @@ use crate::text::at_size;
 use crate::text::first_sizes;
 use crate::text::{self};
 use crate::told;
+use magnetar_batch::value::Valued;
 use magnetar_check::check::RowCheck;
+use magnetar_field::gf128;
 use magnetar_hash::transcript::Transcript;
 use magnetar_hash::transcript::TranscriptAnswer;
 use magnetar_records::records::Entry;
@@ -133,6 +137,39 @@ pub(crate) fn combo(
     );
     if c == code {
         if text::same(o, out) {
+            return text::same(s, scratch);
+        }
+    }
+    false
+}
+
+// The combined table at a column point.
+pub(crate) fn value(
+    nums: &[u64],
+    given: &[u64],
+    sizes: &[usize],
+    r: Valued,
+    scratch: &[u64],
+) -> bool {
+    let n = count(given, sizes);
+    if too_many(n) {
+        return true;
+    }
+    let mut words = text::room();
+    let s = text::front(&mut words, scratch.len());
+    let again = lent::value(
+        s,
+        told::m(sizes),
+        told::shapes(sizes),
+        twelve(text::after(nums, 1, 0)),
+        thirty_two(text::after(nums, 1, 1)),
+        thirty_two(text::after(nums, 1, 2)),
+        thirty_two(text::after(nums, 1, 3)),
+        records(given, sizes),
+        n,
+    );
+    if again.code == r.code {
+        if gf128::equal(again.value, r.value) {
             return text::same(s, scratch);
         }
     }

@@ -4,11 +4,15 @@ use crate::text::at;
 use crate::text::print;
 use crate::text::{self};
 use crate::told;
-use magnetar_batch::combo;
+use magnetar_batch::eval;
 use magnetar_batch::fold;
-use magnetar_batch::table;
+use magnetar_field::gf128::Gf128;
+use magnetar_field::gf128::{self};
 use magnetar_field::sizes::least;
 use magnetar_field::sizes::log2;
+use magnetar_field::words;
+use magnetar_multilinear::eq::EqBits;
+use magnetar_multilinear::multilinear;
 use magnetar_protocol::first::Found;
 use magnetar_verifier::claims;
 use magnetar_verifier::end;
@@ -31,38 +35,55 @@ fn first(nums: &[u64], sizes: &[usize]) -> Found {
     )
 }
 
-// The combined table, which the last checks read.
-fn combine(nums: &[u64], given: &[u64], sizes: &[usize], scratch: &mut [u64]) {
-    combo::combine(
+// Twelve words of a list, 0 where it has fewer.
+pub(crate) fn twelve(s: &[u64]) -> [u64; 12] {
+    let mut a = [0u64; 12];
+    words::copy(s, &mut a);
+    a
+}
+
+// Thirty-two words of a list, 0 where it has fewer.
+pub(crate) fn thirty_two(s: &[u64]) -> [u64; 32] {
+    let mut a = [0u64; 32];
+    words::copy(s, &mut a);
+    a
+}
+
+// The inner point of m columns, with which the draws end.
+fn inner(nums: &[u64], m: usize) -> &[u64] {
+    let d = text::after(nums, 2, 1);
+    let k = least(2 * log2(m), d.len());
+    let a = d.len() - k;
+    &d[a..]
+}
+
+// The value of the combined table at the inner point, which the last checks take.
+fn table_value(nums: &[u64], given: &[u64], sizes: &[usize], scratch: &mut [u64]) -> Gf128 {
+    let r = eval::eval_m_combo(
+        0,
         scratch,
         told::m(sizes),
         told::shapes(sizes),
-        table::alphas12(text::after(nums, 2, 2)),
-        table::point32(text::after(nums, 2, 3)),
-        table::point32(text::after(nums, 2, 4)),
+        twelve(text::after(nums, 2, 2)),
+        thirty_two(text::after(nums, 2, 3)),
+        thirty_two(text::after(nums, 2, 4)),
+        thirty_two(inner(nums, told::m(sizes))),
         told::row(sizes),
         told::col(sizes),
         told::lo(given),
         told::hi(given),
     );
+    r.value
 }
 
-fn last(nums: &[u64], sizes: &[usize], scratch: &mut [u64]) -> Found {
+fn last(nums: &[u64], sizes: &[usize], v: Gf128, p: Gf128) -> Found {
     let m = told::m(sizes);
     let q = told::q(sizes);
     let rb = told::rows_bin(sizes);
     let rf = told::rows_fld(sizes);
     let proof = text::after(nums, 2, 0);
-    end::end_checks(
-        m,
-        q,
-        rb,
-        rf,
-        told::lens(sizes),
-        proof,
-        text::after(nums, 2, 1),
-        scratch,
-    )
+    let draws = text::after(nums, 2, 1);
+    end::end_checks(m, q, rb, rf, told::lens(sizes), proof, draws, v, p)
 }
 
 fn claimed(nums: &[u64], sizes: &[usize], claims: &mut [u64]) -> u32 {
@@ -83,7 +104,7 @@ fn claimed(nums: &[u64], sizes: &[usize], claims: &mut [u64]) -> u32 {
     )
 }
 
-// The public half folded at the point of the logins, with which the claims begin, behind the combined table.
+// The public half folded at the point of the logins, with which the claims begin, behind the first m elements.
 fn lay(nums: &[u64], given: &[u64], sizes: &[usize], scratch: &mut [u64]) {
     let m = told::m(sizes);
     let q = told::q(sizes);
@@ -99,6 +120,26 @@ fn lay(nums: &[u64], given: &[u64], sizes: &[usize], scratch: &mut [u64]) {
     );
 }
 
+// The value at the point of the table in the first half of the words, by an eq table in the second. Both are cleared.
+fn value_at(t: &mut [u64], point: &[u64]) -> Gf128 {
+    let n = t.len() / 2;
+    let e = 2 * n;
+    EqBits::build(point, gf128::ONE, &mut t[n..e]);
+    let v = multilinear::dot(&t[0..n], &t[n..e]);
+    words::clear(t);
+    v
+}
+
+// The value of the public half at the low point, the inner one without its last element.
+fn half_value(nums: &[u64], given: &[u64], sizes: &[usize], scratch: &mut [u64]) -> Gf128 {
+    lay(nums, given, sizes, scratch);
+    let m = least(told::m(sizes), scratch.len() / 4);
+    let a = 2 * m;
+    let e = 4 * m;
+    let point = text::first(inner(nums, m), 2 * log2(m / 2));
+    value_at(&mut scratch[a..e], point)
+}
+
 // The number, and how many events come before the check that gave it.
 fn print_found(f: Found) {
     print(b"= ");
@@ -110,9 +151,9 @@ fn print_found(f: Found) {
 
 // The checks of the end and the claims.
 fn ended(nums: &[u64], given: &[u64], sizes: &[usize], claims: &mut [u64], scratch: &mut [u64]) {
-    combine(nums, given, sizes, scratch);
-    lay(nums, given, sizes, scratch);
-    let f = last(nums, sizes, scratch);
+    let v = table_value(nums, given, sizes, scratch);
+    let p = half_value(nums, given, sizes, scratch);
+    let f = last(nums, sizes, v, p);
     print_found(f);
     if f.code == 0 {
         text::print_code(claimed(nums, sizes, claims), claims);

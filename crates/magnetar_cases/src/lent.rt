@@ -8,9 +8,12 @@ ghost use Rattle.magnetar_r1cs.specs.Entries.{masksRefusal, masksOut};
 ghost use Rattle.magnetar_relation.specs.Rules.{rulesOver};
 ghost use Rattle.magnetar_check.specs.Check.{checked, checkOutcome};
 ghost use Rattle.magnetar_batch.specs.Entries.{combined, comboOutcome};
+ghost use Rattle.magnetar_batch.specs.Value.{valued, valueOutcome};
 ghost use Rattle.magnetar_spartan.specs.Outcome.{verified, verifyOutcome, proved, proveOutcome};
 ghost use Rattle.magnetar_records.specs.Records.{lentOf, entriesOfRecords};
 use magnetar_batch::combo_records as combo;
+use magnetar_batch::eval_records as eval;
+use magnetar_batch::value::Valued;
 use magnetar_check::check::RowCheck;
 use magnetar_check::check_records as check;
 use magnetar_field::sizes;
@@ -60,6 +63,27 @@ pub(crate) fn combo(
     let most = 384;
     let k = sizes::least(n, most);
     combo::build_m_combo(out, scratch, m, sh, &es[..k], alphas, pb, pf)
+}
+
+// The combined table at a column point.
+pub(crate) fn value(
+    scratch: &mut [u64],
+    m: usize,
+    sh: Shapes,
+    al: [u64; 12],
+    pb: [u64; 32],
+    pf: [u64; 32],
+    c: [u64; 32],
+    es: [Entry; 384],
+    n: usize,
+) -> Valued
+    ensures { λ r. ⌜ valued r (now (scratch .exit))
+        ≡ valueOutcome 0 (rulesOver m 1 [] sh (entriesOfRecords (take (min n 384) es))) al pb pf c (now (scratch .entry)) ⌝ }
+{
+    let most = 384;
+    let none = 0;
+    let k = sizes::least(n, most);
+    eval::eval_m_combo(none, scratch, m, sh, al, pb, pf, c, &es[..k])
 }
 
 // The row check.

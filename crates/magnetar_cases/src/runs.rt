@@ -15,6 +15,8 @@ const PROVE: u64 = 0x70726f7665;
 
 const VERIFY: u64 = 0x766572696679;
 
+const ROOMS: u64 = 0x726f6f6d73;
+
 // The 32 bytes that the line's second word spells in hexadecimal.
 pub(crate) fn state(line: &[u8]) -> [u8; 32] {
     let from = text::plus(text::find(line, 0, b' '), 1);
@@ -133,18 +135,44 @@ fn prove(given: &[u64], sizes: &[usize], nums: &[u64], t: Transcript) {
     text::print_cleared(scratch);
 }
 
-// verify STATE CTR C S PROOF: the verifier with C words lent for the claims and S as scratch.
-fn verify(given: &[u64], sizes: &[usize], nums: &[u64], t: Transcript) {
+// The verifier with c words lent for the claims and s as scratch.
+fn verify_in(given: &[u64], sizes: &[usize], c: u64, s: u64, proof: &[u64], t: Transcript) {
     let mut room = [MARK; 256];
     let mut words = text::room();
-    let claims = text::front(&mut room, text::size(at(nums, 2)));
-    let scratch = text::front(&mut words, text::size(at(nums, 3)));
-    let proof = text::list(nums, 4);
+    let claims = text::front(&mut room, text::size(c));
+    let scratch = text::front(&mut words, text::size(s));
     let r = verified(given, sizes, t, claims, scratch, proof);
     text::agreed(again::verify(given, sizes, t, proof, r, claims, scratch));
     print_answer(r);
     print_line(claims);
     text::print_cleared(scratch);
+}
+
+// verify STATE CTR C S PROOF: the verifier with C words lent for the claims and S as scratch.
+fn verify(given: &[u64], sizes: &[usize], nums: &[u64], t: Transcript) {
+    let proof = text::list(nums, 4);
+    verify_in(given, sizes, at(nums, 2), at(nums, 3), proof, t);
+}
+
+// The verifier with as many words of scratch as number i of the list says, where it has one.
+fn room_at(given: &[u64], sizes: &[usize], nums: &[u64], i: usize, t: Transcript) {
+    let lengths = text::after(nums, 3, 1);
+    if i < lengths.len() {
+        let proof = text::list(nums, 3);
+        verify_in(given, sizes, at(nums, 2), at(lengths, i), proof, t);
+    }
+}
+
+// rooms STATE CTR C PROOF LENGTHS: the verifier with each number of LENGTHS, which are eight at most, as the words of scratch.
+fn rooms(given: &[u64], sizes: &[usize], nums: &[u64], t: Transcript) {
+    room_at(given, sizes, nums, 0, t);
+    room_at(given, sizes, nums, 1, t);
+    room_at(given, sizes, nums, 2, t);
+    room_at(given, sizes, nums, 3, t);
+    room_at(given, sizes, nums, 4, t);
+    room_at(given, sizes, nums, 5, t);
+    room_at(given, sizes, nums, 6, t);
+    room_at(given, sizes, nums, 7, t);
 }
 
 // Runs one end on a relation, or says that it is no such query.
@@ -165,6 +193,10 @@ pub(crate) fn answered(
     }
     if op == VERIFY {
         verify(given, sizes, nums, t);
+        return true;
+    }
+    if op == ROOMS {
+        rooms(given, sizes, nums, t);
         return true;
     }
     false
