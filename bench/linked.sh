@@ -1,4 +1,4 @@
-# Sourced by the scripts of proofs/, columns/, stray/ and tables/, which link the library for C and the built Rust into one program and time both.
+# Sourced by the scripts of proofs/, columns/, stray/, tables/ and verifier/, which link the library for C and the built Rust into one program and time both.
 # ORACLE, their first word, is a folder that holds the Rust built in release mode: target/release/libmagnetar_*.rlib and
 # target/release/deps. Needs rt and the rustc that built it. The figures are written down in docs/PERFORMANCE.md.
 set -euo pipefail
@@ -14,12 +14,12 @@ linked() {
         --extern magnetar_field="$release/libmagnetar_field.rlib" -L dependency="$release/deps" -L native=target/staticlib
 }
 
-# wrapped NAME: the same over the Rust crate of bindings/, with the Rust's ends
+# wrapped NAME [WORDS..]: the same over the Rust crate of bindings/, with the Rust's ends
 wrapped() {
     rustc --edition 2021 -C opt-level=3 --crate-type rlib --crate-name magnetar -o target/bench/libmagnetar.rlib bindings/rust/src/lib.rs \
         -L native=target/staticlib
     linked "$1" --extern magnetar=target/bench/libmagnetar.rlib --extern magnetar_hash="$release/libmagnetar_hash.rlib" \
-        --extern magnetar_spartan="$release/libmagnetar_spartan.rlib"
+        --extern magnetar_spartan="$release/libmagnetar_spartan.rlib" "${@:2}"
 }
 
 # the sizes of whole runs: m, q, rows of bin and of fld, entries, segments, proofs, turns of the verifiers; with the word `all` also the two

@@ -107,6 +107,14 @@ fault counts magnetar_relation/src/rules.rt 'let n = entries_in(b) + entries_in(
 fault border magnetar_relation/src/range.rt 'after(b, t.c.entries, n)' 'after(b, t.b.entries, n)'
 # over records alone, the second matrix of a system takes the third one's alpha
 fault record-alpha magnetar_batch/src/combo_records.rt 'add_matrix(es, s, m, n, al, j, p, b, c);' 'add_matrix(es, s, m, n, al, k, p, b, c);'
+# the verifier's scratch: the former number of words is asked for; all words of the former formula are cleared where they are lent
+fault former-scratch magnetar_protocol/src/scratch.rt '    2 * m + 2 * sizes::larger(rb, rf) + 2 * q' '    4 * m + 4 * sizes::larger(rb, rf) + 2 * q'
+fault former-cleared magnetar_spartan/src/stages.rt 'step::clear_front(i + q, s);' 'step::clear_front(sizes::least(2 * i + q, h), s);'
+# the verifier's value of the combined table: the second matrix of a system takes the first one's alpha; the row point's order is reversed
+fault one-alpha magnetar_batch/src/value.rt 'words::get(&al, i + 1)' 'words::get(&al, i)'
+fault row-point magnetar_batch/src/value.rt 'words::get(p, j)' 'words::get(p, n - 1 - j)'
+# over records alone, the third matrix's records count for the second too
+fault record-rows magnetar_batch/src/eval_records.rt 'let y = matrix_value(es, s, k, m, n, p, b, c);' 'let y = matrix_value(es, s, k, m, n, p, b, d);'
 # public columns of login 0 for every login: in the packed products, in the folded public half, in the row check and over records
 fault first-products magnetar_r1cs/src/r1cs.rt 'if columns::repeats(x, l) {' 'if l <= x.len() {'
 fault first-half magnetar_batch/src/fold.rt 'let a = u * l;' 'let a = 0 * l;'

@@ -37,7 +37,7 @@ fn checks(sheet: &mut Sheet, rel: &Relation, proof: &[u64], draws: &[Gf128]) {
     let rows = 3 * s + b + f;
     let (pb, pf) = (&draws[rows..rows + b], &draws[rows + b..rows + b + f]);
     let alphas = &draws[rows + b + f..rows + b + f + 6];
-    let cleared = counted((4 * rel.m).max(3 * rel.m + 2 * rel.q).max(2 * rel.m + 2 * rb.max(rf)), room.verifier);
+    let cleared = counted((4 * rel.m).max(3 * rel.m + 2 * rel.q).max(2 * rel.m + 2 * rb.max(rf)), room.former);
     let events = t.log.len();
     let answer = match found {
         Err(e) if number(e) <= 26 => vec![format!("= {} {events}", number(e))],
@@ -52,7 +52,7 @@ fn checks(sheet: &mut Sheet, rel: &Relation, proof: &[u64], draws: &[Gf128]) {
     };
     let query = format!(
         "checks {} {} {} {} {} {} {}",
-        room.claims, room.verifier, list(proof), elements(draws), elements(alphas), elements(pb), elements(pf),
+        room.claims, room.former, list(proof), elements(draws), elements(alphas), elements(pb), elements(pf),
     );
     let name = if rel.own() { "outer_checks, end_checks, write_claims, own columns" } else { "outer_checks, end_checks, write_claims" };
     sheet.ask_on(name, Rust, &rel.text(), query, answer);

@@ -120,6 +120,9 @@ pub fn runs(tally: &mut Tally, which: usize) {
     let last = bad.len() - 1;
     bad[last] ^= 1 << 63;
     runs::verify(tally, &rel, &t, &bad, room.claims, room.verifier);
+    runs::verify(tally, &rel, &t, &bad, room.claims, room.former);
+    runs::verify(tally, &rel, &t, &proof, room.claims, room.verifier - 1);
+    runs::verify(tally, &rel, &t, &proof, room.claims, room.former + 1);
     // the public words are many: they are passed on, not copied
     let edits: [fn(&mut Relation); 3] =
         [|r| r.matrices[5].put(0, 0, ZERO), |r| r.matrices[3..].iter_mut().for_each(|m| m.rows *= 2), |r| r.lens = vec![1; 65]];

@@ -87,8 +87,17 @@ pub struct Room {
     pub proof: usize,
     pub claims: usize,
     pub verifier: usize,
+    /// what the verifier's scratch was before document 02's U8
+    pub former: usize,
     pub prover: usize,
     pub check: usize,
+}
+
+impl Room {
+    /// Numbers of words of scratch that the verifier takes: the formula, one more, and the same around the former one; odd ones, and more.
+    pub fn lengths(&self) -> [usize; 7] {
+        [self.verifier, self.verifier + 1, self.verifier + 3, self.former - 1, self.former, self.former + 1, self.former + 98]
+    }
 }
 
 pub fn room(r: &Relation) -> Room {
@@ -97,7 +106,8 @@ pub fn room(r: &Relation) -> Room {
     Room {
         proof: 2 * (8 * s + 4 * log2(rb) + 4 * log2(rf) + 7 + 3 * n + l),
         claims: 2 * (s + n - 1 + l),
-        verifier: 4 * r.m + 4 * most + 2 * r.q,
+        verifier: 2 * r.m + 2 * most + 2 * r.q,
+        former: 4 * r.m + 4 * most + 2 * r.q,
         prover: 8 * r.q * (rb + rf) + 8 * r.m + 4 * most + 6 * r.q,
         check: 6 * most,
     }

@@ -12,6 +12,7 @@ use crate::whole::{damage, to_check, Said};
 use magnetar::sys::RowVerdict;
 use magnetar_field::Gf128;
 use magnetar_spartan::{prove_virtual_spartan, verify_virtual_spartan};
+use std::cell::Cell;
 
 fn log2(n: usize) -> usize {
     n.trailing_zeros() as usize
@@ -191,7 +192,7 @@ pub fn exhaustive(tally: &mut Tally, part: usize, parts: usize) {
             verify(tally, &rel, &t, &proof, lent, room.verifier);
             prove(tally, &rel, &t, room.proof, lent, room.prover);
         }
-        for lent in 0..room.verifier + 3 {
+        for lent in 0..room.former + 3 {
             verify(tally, &rel, &t, &proof, room.claims, lent);
         }
         for lent in 0..room.check + 3 {
@@ -293,7 +294,12 @@ fn boundaries(tally: &mut Tally) {
 /// The proof damaged in other ways, or brought to another verifier.
 fn damaged(tally: &mut Tally, r: &mut Random, rel: &Relation, t: &State, proof: &[u64]) {
     let room = model::room(rel);
-    let ask = |tally: &mut Tally, rel: &Relation, t: &State, proof: &[u64]| verify(tally, rel, t, proof, room.claims, room.verifier);
+    // the formula's words of scratch in every other call, then more
+    let turn = Cell::new(r.below(14));
+    let ask = |tally: &mut Tally, rel: &Relation, t: &State, proof: &[u64]| {
+        let (n, lengths) = (turn.replace(turn.get() + 1), room.lengths());
+        verify(tally, rel, t, proof, room.claims, if n % 2 == 0 { room.verifier } else { lengths[n / 2 % lengths.len()] })
+    };
     // a bit of each element
     for i in 0..proof.len() / 2 {
         let mut p = proof.to_vec();
@@ -387,6 +393,9 @@ fn both(tally: &mut Tally, r: &mut Random, rel: Relation, kind: Kind) {
     let less = 1 + r.below(3);
     verify(tally, &rel, &t, &proof, room.claims.saturating_sub(less), room.verifier);
     verify(tally, &rel, &t, &proof, room.claims, room.verifier - less);
+    for lent in room.lengths() {
+        verify(tally, &rel, &t, &proof, room.claims, lent);
+    }
     prove(tally, &rel, &t, room.proof - less, room.claims, room.prover);
     prove(tally, &rel, &t, room.proof, room.claims, room.prover - less);
     prove(tally, &rel, &(t.0, t.1 + (1 << 32)), room.proof, room.claims, room.prover - r.below(2));

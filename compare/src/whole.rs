@@ -11,7 +11,7 @@ use crate::rust;
 use crate::sheet::Sheet;
 use crate::tally::By::{self, Document, Rust};
 use crate::text::*;
-use magnetar_field::{mul, Gf128};
+use magnetar_field::{eval_mle, mul, Gf128};
 use open_spartan::virtual_spartan::open_build_m_combo;
 
 /// What the program has room for.
@@ -42,6 +42,25 @@ fn combo(sheet: &mut Sheet, rel: &Relation, alphas: &[u64], pb: &[u64], pf: &[u6
     };
     let query = format!("combo {lent} {scratch} {} {} {}", list(alphas), list(pb), list(pf));
     sheet.ask_on("combo::build_m_combo", by(n), &rel.text(), query, answer);
+}
+
+/// The combined table at a column point. An entry outside its matrix is no refusal of it, and is not asked here.
+fn value(sheet: &mut Sheet, rel: &Relation, alphas: &[u64], pb: &[u64], pf: &[u64], c: &[u64], scratch: usize) {
+    let [rb, rf] = rel.rows();
+    let need = 2 * rel.m + 2 * rb.max(rf);
+    let n = match model::relation(rel, false, false, false) {
+        0 => model::first(&[(15, scratch < need)]),
+        7 => return,
+        n => n,
+    };
+    let answer = if n == 0 {
+        let table = open_build_m_combo(&open::relation(rel), &rust::elements(alphas), &rust::elements(pb), &rust::elements(pf));
+        vec![code(0, &words(&[eval_mle(&table, &rust::elements(c))])), counted(need, scratch)]
+    } else {
+        vec![code(n, &[0, 0]), counted(0, scratch)]
+    };
+    let query = format!("value {scratch} {} {} {} {}", list(alphas), list(pb), list(pf), list(c));
+    sheet.ask_on("eval::eval_m_combo", by(n), &rel.text(), query, answer);
 }
 
 fn masks(sheet: &mut Sheet, m: &Matrix, packed: &[u64], q: usize, w: usize, v: usize, lent: usize) {
@@ -179,11 +198,14 @@ fn verified(sheet: &mut Sheet, r: &mut Random, rel: &Relation) {
     proof.truncate(room.proof);
     prove(sheet, rel, &start, room.proof, room.claims, room.prover - 1);
     verify(sheet, rel, &start, &proof, room.claims, room.verifier);
+    verify(sheet, rel, &start, &proof, room.claims, room.verifier - 1);
+    verify(sheet, rel, &start, &proof, room.claims, r.pick(&room.lengths()));
     for _ in 0..6 {
         let mut p = proof.clone();
         let i = r.below(p.len());
         p[i] ^= 1 << r.below(64);
         verify(sheet, rel, &start, &p, room.claims, room.verifier);
+        verify(sheet, rel, &start, &p, room.claims, r.pick(&room.lengths()));
     }
     verify(sheet, rel, &(start.0, 1 << 32), &proof, room.claims, room.verifier);
     verify(sheet, rel, &start, &proof[..proof.len() - 1], room.claims, room.verifier);
@@ -321,6 +343,10 @@ pub fn random(sheet: &mut Sheet, r: &mut Random) {
     let need = 2 * m + 2 * rows[0].max(rows[1]);
     combo(sheet, &rel, &alphas, &pb, &pf, 2 * m + slack, need + slack);
     combo(sheet, &rel, &alphas, &pb, &pf, (2 * m + slack).saturating_sub(1), need.saturating_sub(r.below(2)));
+    let point = words(&r.elements(log2(m)));
+    for scratch in [need, need + slack, need - 1] {
+        value(sheet, &rel, &alphas, &pb, &pf, &point, scratch);
+    }
     let short = r.below(13);
     combo(sheet, &rel, &alphas[..short.min(12)], &pb, &pf, 2 * m, need);
     let (w, q) = (1 << r.below(8), 1 << r.below(8));
@@ -347,4 +373,7 @@ pub fn random(sheet: &mut Sheet, r: &mut Random) {
     }
     check(sheet, &bad, room.check);
     combo(sheet, &bad, &alphas, &pb, &pf, 2 * m, need.max(2 * m));
+    if bad.m == rel.m {
+        value(sheet, &bad, &alphas, &pb, &pf, &point, need);
+    }
 }
