@@ -76,7 +76,7 @@ enum {
 #define MAGNETAR_MOST_ROWS(rb, rf) ((size_t)((rb) > (rf) ? (rb) : (rf)))
 #define MAGNETAR_CHECK_SCRATCH(rb, rf) (6 * MAGNETAR_MOST_ROWS(rb, rf))
 #define MAGNETAR_COMBO_SCRATCH(m, rb, rf) (2 * (size_t)(m) + 2 * MAGNETAR_MOST_ROWS(rb, rf))
-#define MAGNETAR_VERIFIER_SCRATCH(m, q, rb, rf) (4 * (size_t)(m) + 4 * MAGNETAR_MOST_ROWS(rb, rf) + 2 * (size_t)(q))
+#define MAGNETAR_VERIFIER_SCRATCH(m, q, rb, rf) (2 * (size_t)(m) + 2 * MAGNETAR_MOST_ROWS(rb, rf) + 2 * (size_t)(q))
 #define MAGNETAR_PROVER_SCRATCH(m, q, rb, rf) \
     (8 * (size_t)(q) * ((size_t)(rb) + (rf)) + 8 * (size_t)(m) + 4 * MAGNETAR_MOST_ROWS(rb, rf) + 6 * (size_t)(q))
 
@@ -348,7 +348,8 @@ magnetar_answer magnetar_prove_virtual_spartan(
     const uint64_t *packed, size_t packed_len, const uint64_t *x, size_t x_len, magnetar_transcript t);
 
 /* The verdict on a proof, 0 where it is accepted, and then the same claims. Refuses 1, 3 to 10 and 14 to 16, and 21 to 29, after which
- * the scratch is cleared and the transcript has gone on. */
+ * the transcript has gone on. Unless 1 to 16 refuse, the first MAGNETAR_VERIFIER_SCRATCH words of the scratch are 0 after the call; no word
+ * behind them is written, whatever is lent. */
 magnetar_answer magnetar_verify_virtual_spartan(
     uint64_t *claims, size_t claims_len, uint64_t *scratch, size_t scratch_len,
     size_t m, size_t q, const size_t *lens, size_t lens_len, magnetar_shapes shapes, const size_t *row, size_t row_len,

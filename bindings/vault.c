@@ -186,7 +186,7 @@ int main(int argc, char **argv)
             return 1;
 
     magnetar_transcript t = bound(rules.digest, x, commitment);
-    magnetar_answer a = magnetar_verify(&r, x, PUBLIC, proof, PROOF, t, claims, CLAIMS, scratch, SCRATCH);
+    magnetar_answer a = magnetar_verify(&r, x, PUBLIC, proof, PROOF, t, claims, CLAIMS, scratch, MAGNETAR_VERIFIER_SCRATCH(M, Q, BIN, FLD));
     show_rows("four logins,", magnetar_check(&r, good, PACKED, x, PUBLIC, scratch, SCRATCH));
     printf("verify: %u\n", a.code);
     show("claims:", claims, CLAIMS);

@@ -117,9 +117,9 @@ impl Relation {
         self.most_rows().checked_mul(4)?.checked_add(self.q.checked_mul(6)?)?.checked_add(tables)
     }
 
-    /// The words of the verifier's scratch: 4 m + 4 max(Rb, Rf) + 2 q.
+    /// The words of the verifier's scratch: 2 m + 2 max(Rb, Rf) + 2 q.
     pub fn verifier_scratch(&self) -> Option<usize> {
-        self.m.checked_add(self.most_rows())?.checked_mul(4)?.checked_add(self.q.checked_mul(2)?)
+        self.m.checked_add(self.most_rows())?.checked_add(self.q)?.checked_mul(2)
     }
 
     fn claims(&self, words: Vec<u64>) -> Claims {
@@ -221,8 +221,24 @@ pub fn verify(r: &Relation, x: &[u64], proof: &[u64], t: &mut Transcript) -> Res
 
 #[cfg(test)]
 mod tests {
-    use super::repeat_columns;
-    use crate::{Element, Matrix};
+    use super::{prove, repeat_columns, Relation};
+    use crate::{lent, Element, Matrix, Transcript};
+
+    #[test]
+    fn the_verifier_takes_the_scratch_it_asks_for_and_writes_no_other_word() {
+        let r = Relation::new(4, 2, vec![2], &[(); 3].map(|_| Matrix::new(1, 4, &[])), &[(); 3].map(|_| Matrix::new(2, 4, &[])));
+        let (x, start) = ([0; 4], Transcript::new(b"test", &[]));
+        let (proof, _) = prove(&r, &[1, 0, 2, 0], &x, &mut start.clone()).unwrap();
+        let need = r.verifier_scratch().unwrap();
+        assert_eq!(need, 2 * 4 + 2 * 2 + 2 * 2);
+        for words in [need - 1, need, need + 1, 2 * need] {
+            let (mut claims, mut scratch) = (vec![7; r.claim_words()], vec![7; words]);
+            let answer = lent::verify(&mut claims, &mut scratch, r.m, r.q, &r.segments, &r.rules, &x, &proof, start);
+            let zeros = if words < need { 0 } else { need };
+            assert_eq!(answer.code, if words < need { 15 } else { 0 });
+            assert!(scratch[..zeros].iter().all(|&w| w == 0) && scratch[zeros..].iter().all(|&w| w == 7));
+        }
+    }
 
     #[test]
     fn every_login_has_the_repeated_columns() {
