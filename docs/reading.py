@@ -167,7 +167,7 @@ WRONG = {
     "magnetar_protocol/specs/Run.antt": "an answer of 0 would not mean that every check passes, or a true claim not what document 01 says",
     "magnetar_protocol/specs/RunSizes.antt": "the first theorem would speak of batches that no packed words hold",
     "magnetar_protocol/specs/RunTests.antt": "a counter of 2^32 or more, or another number of proof words, would not be refused",
-    "magnetar_protocol/specs/Scratch.antt": "another number of scratch words would be asked for and cleared than document 01's",
+    "magnetar_protocol/specs/Scratch.antt": "another number of scratch words would be asked for and cleared than documents 01 and 02 say",
     "magnetar_protocol/specs/Shape.antt": "parts of the proof and events would be counted wrongly",
     "magnetar_protocol/specs/Soundness.antt": "any draw would count as bad, and the first theorem would say nothing",
     "magnetar_relation/specs/RuleTests.antt": "a relation past the limits would be let through, or a good one refused",
