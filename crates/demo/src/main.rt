@@ -1,5 +1,7 @@
 // A vault of four logins: packed, checked row by row, bound, proved and verified, and its claims checked; then what goes wrong, and what is
 // said about it. All that is written stands in the file `stdout`.
+#![tactic(auto)]
+
 mod opened;
 mod refusal;
 mod rules;

@@ -1,4 +1,6 @@
 // Folds of a packed batch over its logins; the six matrices combined, over number slices and over records.
+#![tactic(auto)]
+
 pub mod combo;
 pub mod combo_records;
 pub mod eval;

@@ -19,7 +19,7 @@ use magnetar_relation::shapes::Shapes;
 use magnetar_relation::step;
 
 // The number of a refusal or 0, and the value, 0 where the call is refused.
-#[derive(Drop)]
+#[derive(Clone, Copy)]
 pub struct Valued {
     pub code: u32,
     pub value: Gf128,

@@ -15,14 +15,14 @@ use magnetar_sumcheck_verifier::verify::Round;
 
 // An element: the low word first.
 #[repr(C)]
-#[derive(Drop)]
+#[derive(Clone, Copy)]
 pub struct MagnetarElement {
     pub lo: u64,
     pub hi: u64,
 }
 
 #[repr(C)]
-#[derive(Drop)]
+#[derive(Clone, Copy)]
 pub struct MagnetarTranscript {
     pub state: [u8; 32],
     pub squeeze_ctr: u64,
@@ -30,7 +30,7 @@ pub struct MagnetarTranscript {
 
 // The number of the refusal, 0 for none, and the transcript.
 #[repr(C)]
-#[derive(Drop)]
+#[derive(Clone, Copy)]
 pub struct MagnetarAnswer {
     pub code: u32,
     pub transcript: MagnetarTranscript,
@@ -38,7 +38,7 @@ pub struct MagnetarAnswer {
 
 // The same with the element drawn.
 #[repr(C)]
-#[derive(Drop)]
+#[derive(Clone, Copy)]
 pub struct MagnetarDraw {
     pub code: u32,
     pub element: MagnetarElement,
@@ -48,7 +48,7 @@ pub struct MagnetarDraw {
 // The answer of the row check: a refusal or 0; then what was found, 0 nothing, 1 a failing row of bin, 2 one of fld, 3 a refusal, 4 a stray
 // bit; then the login, the failing row, and the column of the stray bit. What is not there is 0.
 #[repr(C)]
-#[derive(Drop)]
+#[derive(Clone, Copy)]
 pub struct MagnetarRowCheck {
     pub code: u32,
     pub system: u32,
@@ -59,7 +59,7 @@ pub struct MagnetarRowCheck {
 
 // An element, 0 where the call is refused.
 #[repr(C)]
-#[derive(Drop)]
+#[derive(Clone, Copy)]
 pub struct MagnetarValue {
     pub code: u32,
     pub element: MagnetarElement,
@@ -67,7 +67,7 @@ pub struct MagnetarValue {
 
 // Yes or no, no where the call is refused.
 #[repr(C)]
-#[derive(Drop)]
+#[derive(Clone, Copy)]
 pub struct MagnetarFlag {
     pub code: u32,
     pub yes: bool,
@@ -75,7 +75,7 @@ pub struct MagnetarFlag {
 
 // What a round of the verifier leaves: whether the message is right, and the running claim.
 #[repr(C)]
-#[derive(Drop)]
+#[derive(Clone, Copy)]
 pub struct MagnetarRound {
     pub code: u32,
     pub holds: bool,
@@ -84,7 +84,7 @@ pub struct MagnetarRound {
 
 // The same of a round that draws its challenge.
 #[repr(C)]
-#[derive(Drop)]
+#[derive(Clone, Copy)]
 pub struct MagnetarCapture {
     pub code: u32,
     pub holds: bool,
@@ -95,14 +95,14 @@ pub struct MagnetarCapture {
 
 // A hash.
 #[repr(C)]
-#[derive(Drop)]
+#[derive(Clone, Copy)]
 pub struct MagnetarDigest {
     pub bytes: [u8; 32],
 }
 
 // The same with the number of a refusal, 0 for none; 32 bytes 0 where the call is refused.
 #[repr(C)]
-#[derive(Drop)]
+#[derive(Clone, Copy)]
 pub struct MagnetarDigestAnswer {
     pub code: u32,
     pub digest: MagnetarDigest,

@@ -1,5 +1,7 @@
 // The entries for C and Rust: each is the function of the same name below, under the name magnetar_NAME and by the C calling
 // convention, with the same outcome. A slice is a pointer and a length; a struct goes by value.
+#![tactic(auto)]
+
 mod across;
 pub mod hashing;
 pub mod matrices;

@@ -209,7 +209,7 @@ pub(crate) fn verify(
 }
 
 // What a row check says, as numbers.
-#[derive(Drop)]
+#[derive(Clone, Copy)]
 struct Said {
     kind: usize,
     login: usize,

@@ -1,6 +1,8 @@
 // Replays queries on a whole relation: reads the relation with its batch, calls the function that a line names and writes all
 // that the call hands back (docs/VECTORS.md), after a line `differ` where the same call over records hands back something else, and
 // after a line `alone` where it cannot be asked of records. A line that begins with # is copied.
+#![tactic(auto)]
+
 mod again;
 mod checks;
 mod digests;

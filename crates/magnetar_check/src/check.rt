@@ -24,7 +24,7 @@ use magnetar_relation::stray::Stray;
 use magnetar_relation::{login, range, rules, step, stray};
 
 // Good; the login and column of the first stray bit; the login and row of the first failing row of a system; or the number of a refusal.
-#[derive(Drop)]
+#[derive(Clone, Copy)]
 pub enum RowCheck {
     Good,
     Stray(usize, usize),
@@ -34,7 +34,7 @@ pub enum RowCheck {
 }
 
 // What was found first: 1 a row of bin that does not hold, 2 a row of fld, 3 a stray bit, 0 nothing; the login, and the row or column.
-#[derive(Drop)]
+#[derive(Clone, Copy)]
 pub struct Found {
     pub kind: usize,
     pub login: usize,

@@ -34,6 +34,7 @@ pub record Log (n k : ℕ) : Type 0 where
 
 pub log-halvings : (k n : ℕ) → 0 < n → n < 2 ^ k → Log n (halvings k n)
 log-halvings zero n p h = absurd (omega arith)
+log-halvings (suc k) zero p h = elim p [ ]
 log-halvings (suc k) (suc zero) p h = rw (halvings-end (suc k) 1 (omega arith)) (record { least = omega arith; most = omega arith })
 log-halvings (suc k) (suc (suc n)) p h =
     let l : Log (suc (suc n) / 2) (halvings k (suc (suc n) / 2)) = log-halvings k (suc (suc n) / 2) (omega arith) (omega (arith, pow-suc 2 k)) in

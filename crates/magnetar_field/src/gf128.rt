@@ -7,14 +7,14 @@ ghost use Rattle.std.specs.Prelude.{◌≡◌, ◌+◌, ◌*◌, ◌/◌, ◌%�
 ghost use Rattle.magnetar_field.specs.Gf128.{value, ◌⊕◌, ◌⊗◌, times_x, power, inverse};
 ghost use Rattle.magnetar_field.specs.Residue.{wide, residue, Multiples, Combined};
 
-#[derive(Drop)]
+#[derive(Clone, Copy)]
 pub struct Gf128 {
     pub lo: u64,
     pub hi: u64,
 }
 
 // An element, or the number of a refusal.
-#[derive(Drop)]
+#[derive(Clone, Copy)]
 pub enum Evaluated {
     Value(Gf128),
     Refused(u32),
@@ -99,7 +99,7 @@ pub fn pow(a: Gf128, k_lo: u64, k_hi: u64) -> Gf128
 // ---- The power's parts.
 
 // A power so far, and the base of the powers to come.
-#[derive(Drop)]
+#[derive(Clone, Copy)]
 struct Powers {
     result: Gf128,
     base: Gf128,
@@ -145,7 +145,7 @@ fn pow_word(p: Powers, k: u64) -> Powers
 // ---- The product's parts.
 
 // A polynomial of degree below 256, as four words, the lowest first.
-#[derive(Drop)]
+#[derive(Clone, Copy)]
 struct Wide {
     w0: u64,
     w1: u64,

@@ -2,6 +2,8 @@
 // transcript in place) and `magnetar_records` (matrices as records), and writes the answer where both agree, else `differ` and both.
 // The queries are those of `magnetar_vectors` on these functions, with the recorded answers (docs/VECTORS.md). A line that begins
 // with # is copied.
+#![tactic(auto)]
+
 mod hash;
 mod lent;
 mod matrix;

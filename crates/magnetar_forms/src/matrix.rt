@@ -17,7 +17,7 @@ const ISBINARY: u64 = 0x697362696e617279;
 const PACKED: u64 = 0x7061636b6564;
 
 // A number, 0 for none, and the words that come with it: a flag's 0 or 1, or an element's.
-#[derive(Drop)]
+#[derive(Clone, Copy)]
 struct Told {
     code: u32,
     lo: u64,

@@ -7,7 +7,7 @@ ghost use Rattle.magnetar_hash.specs.Sponge.{fed, finished, started, within};
 use crate::{sha3, sponge};
 
 // The 25 lanes of a state, and how many bytes of a block have been added to it.
-#[derive(Drop)]
+#[derive(Clone, Copy)]
 pub struct Sponge {
     pub lanes: [u64; 25],
     pub fill: usize,

@@ -87,7 +87,7 @@ fn serialize_parts(s: &mut [u64; 25], fill: usize, bytes: &[u8], lens: &[usize])
 }
 
 // The number of the refusal, 0 for none, and the hash, all 0 where the call is refused.
-#[derive(Drop)]
+#[derive(Clone, Copy)]
 pub struct DigestAnswer {
     pub code: u32,
     pub digest: [u8; 32],

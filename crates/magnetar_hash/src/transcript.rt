@@ -12,7 +12,7 @@ use magnetar_field::gf128::Gf128;
 // Document 01's bound for refusal 14.
 const COUNTER_LIMIT: u64 = 0x100000000;
 
-#[derive(Drop)]
+#[derive(Clone, Copy)]
 pub struct Transcript {
     pub state: [u8; 32],
     pub squeeze_ctr: u64,
@@ -20,14 +20,14 @@ pub struct Transcript {
 
 // The number of the refusal, 0 for none; the transcript, as it was where the call is refused (`new`, which was given none, hands
 // back 32 bytes 0).
-#[derive(Drop)]
+#[derive(Clone, Copy)]
 pub struct TranscriptAnswer {
     pub code: u32,
     pub transcript: Transcript,
 }
 
 // The same with the element drawn, 0 where the draw is refused.
-#[derive(Drop)]
+#[derive(Clone, Copy)]
 pub struct DrawAnswer {
     pub code: u32,
     pub element: Gf128,

@@ -112,7 +112,7 @@ fn chi(u: u64, v: u64, w: u64) -> u64
 }
 
 // The five lanes of a plane.
-#[derive(Drop)]
+#[derive(Clone, Copy)]
 struct Plane {
     a: u64,
     b: u64,

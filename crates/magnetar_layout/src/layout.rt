@@ -97,7 +97,7 @@ pub fn build(w: usize, lens: &[usize], offsets: &mut [usize]) -> u32
 }
 
 // What is read of a layout: a number, no segment of that number, or a refusal.
-#[derive(Drop)]
+#[derive(Clone, Copy)]
 pub enum Reading {
     Number(usize),
     NoSegment,

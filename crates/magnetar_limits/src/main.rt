@@ -1,6 +1,8 @@
 // The most columns, m = 65,536, run to a result: packed products, fold, combined table, row check, prover and verifier, for one login
 // and for two, also where each has its own public columns. Then twice as many columns, which all six refuse. The program fills by rule
 // what it lends, and writes of a slice its digest. The expected answers are the Rust's (docs/VECTORS.md).
+#![tactic(auto)]
+
 mod filled;
 mod runs;
 mod tables;

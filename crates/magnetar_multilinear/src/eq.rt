@@ -33,7 +33,7 @@ pub fn eq_table(point: &[u64], bits: &[bool]) -> Evaluated
 }
 
 // Tables of eq.
-#[derive(Drop)]
+#[derive(Clone, Copy)]
 pub struct EqBits {}
 
 impl EqBits {

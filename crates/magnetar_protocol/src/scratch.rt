@@ -6,7 +6,7 @@ use crate::refusal;
 use magnetar_field::sizes;
 
 // The number of a refusal or 0, and how many words of scratch are asked for, 0 where the call is refused.
-#[derive(Drop)]
+#[derive(Clone, Copy)]
 pub struct ScratchWords {
     pub code: u32,
     pub words: usize,

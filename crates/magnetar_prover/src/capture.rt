@@ -11,7 +11,7 @@ use magnetar_sumcheck_verifier::verify;
 
 // What a round leaves that draws for itself: the number of its refusal or 0, whether the message was right, the running claim, the
 // challenge (0 where nothing was drawn), and the transcript.
-#[derive(Drop)]
+#[derive(Clone, Copy)]
 pub struct Captured {
     pub code: u32,
     pub holds: bool,

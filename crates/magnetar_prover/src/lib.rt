@@ -1,4 +1,6 @@
 // The rounds of the prover, within one lent scratch slice.
+#![tactic(auto)]
+
 pub mod capture;
 mod ends;
 mod events;

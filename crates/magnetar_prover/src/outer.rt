@@ -74,7 +74,7 @@ pub(crate) fn fold(s: &mut [u64], w: usize, n: usize, v: usize, r: Gf128)
 }
 
 // What a round of one system leaves: the transcript after its draw, and the product over the bound variables.
-#[derive(Drop)]
+#[derive(Clone, Copy)]
 pub(crate) struct Round {
     pub transcript: Transcript,
     pub k: Gf128,

@@ -19,7 +19,7 @@ use magnetar_hash::transcript::{Transcript, TranscriptAnswer};
 pub const ALL_EVENTS: usize = 65536;
 
 // The transcript, how many words are written, the place of the next element to absorb, and how many events are left.
-#[derive(Drop)]
+#[derive(Clone, Copy)]
 struct Stage {
     transcript: Transcript,
     written: usize,

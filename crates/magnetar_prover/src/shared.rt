@@ -69,7 +69,7 @@ fn fold_both(
 }
 
 // What a shared round leaves: the transcript after its draw, and the product over the bound variables of each system.
-#[derive(Drop)]
+#[derive(Clone, Copy)]
 pub(crate) struct Both {
     pub transcript: Transcript,
     pub kb: Gf128,
@@ -116,7 +116,7 @@ fn end_both(
 
 // Where a shared round stands: the tau of bin and of fld from elements o and q of the draws on, both messages behind p elements of the
 // proof, the challenge behind d of the draws.
-#[derive(Drop)]
+#[derive(Clone, Copy)]
 pub(crate) struct Places {
     pub o: usize,
     pub q: usize,

@@ -22,7 +22,7 @@ use magnetar_matrix::columns;
 use magnetar_multilinear::eq::EqBits;
 
 // An answer: yes, no, or the number of a refusal.
-#[derive(Drop)]
+#[derive(Clone, Copy)]
 pub enum Flag {
     Yes,
     No,

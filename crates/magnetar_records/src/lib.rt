@@ -1,4 +1,6 @@
 // Above the core: a matrix, or the matrices of a relation, lent as a slice of entry records.
+#![tactic(auto)]
+
 mod logins;
 mod masks;
 pub mod records;

@@ -21,7 +21,7 @@ use magnetar_r1cs::r1cs::Flag;
 use magnetar_relation::step as table;
 
 // An entry of a matrix: its place, and the low and high word of its value.
-#[derive(Drop)]
+#[derive(Clone, Copy)]
 pub struct Entry {
     pub row: usize,
     pub col: usize,

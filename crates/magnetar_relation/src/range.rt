@@ -6,7 +6,7 @@ ghost use Rattle.magnetar_relation.specs.Ends.{ends_of};
 use crate::shapes::Shapes;
 
 // Where the entries of each matrix end: those of the first start at 0, those of each other one where the one before it ends.
-#[derive(Drop)]
+#[derive(Clone, Copy)]
 pub struct Ends {
     pub bina: usize,
     pub binb: usize,

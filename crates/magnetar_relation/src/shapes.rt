@@ -2,7 +2,7 @@
 
 // A matrix: how many rows, columns and entries it has.
 #[repr(C)]
-#[derive(Drop)]
+#[derive(Clone, Copy)]
 pub struct Shape {
     pub rows: usize,
     pub cols: usize,
@@ -11,7 +11,7 @@ pub struct Shape {
 
 // The matrices A, B and C of a system.
 #[repr(C)]
-#[derive(Drop)]
+#[derive(Clone, Copy)]
 pub struct SystemShape {
     pub a: Shape,
     pub b: Shape,
@@ -20,7 +20,7 @@ pub struct SystemShape {
 
 // Both systems of a relation. The entries of all six matrices are lent one behind the other: A, B, C of bin, then A, B, C of fld.
 #[repr(C)]
-#[derive(Drop)]
+#[derive(Clone, Copy)]
 pub struct Shapes {
     pub bin: SystemShape,
     pub fld: SystemShape,

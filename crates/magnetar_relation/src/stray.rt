@@ -14,7 +14,7 @@ use magnetar_matrix::step;
 use magnetar_r1cs::r1cs;
 
 // What is found: no stray bit, the login and column of the first one, or the number of a refusal.
-#[derive(Drop)]
+#[derive(Clone, Copy)]
 pub enum Stray {
     Clear,
     Bit(usize, usize),

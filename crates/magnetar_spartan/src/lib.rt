@@ -1,4 +1,6 @@
 // Virtual Spartan: the refusals of both ends, the prover and the verifier of a batch.
+#![tactic(auto)]
+
 mod combine;
 mod products;
 mod proving;

@@ -10,7 +10,7 @@ use magnetar_relation::range;
 use magnetar_relation::shapes::{Shapes, SystemShape};
 
 // A table: its first word, the rows of its matrix, and the range of that matrix's entries.
-#[derive(Drop)]
+#[derive(Clone, Copy)]
 pub(crate) struct Part {
     pub place: usize,
     pub rows: usize,

@@ -18,7 +18,7 @@ use magnetar_prover::{inner, rounds};
 use magnetar_verifier::claims;
 
 // What the outer rounds hand on: the words of the draws, 0 behind them, and the transcript.
-#[derive(Drop)]
+#[derive(Clone, Copy)]
 pub(crate) struct OuterDraws {
     pub draws: [u64; 256],
     pub transcript: Transcript,

@@ -25,7 +25,7 @@ use magnetar_relation::step;
 use magnetar_verifier::{claims, end, outer};
 
 // What the first stage hands on: the words of the draws, 0 behind them, the transcript at the end, and what the outer checks found.
-#[derive(Drop)]
+#[derive(Clone, Copy)]
 pub(crate) struct OuterStage {
     pub draws: [u64; 256],
     pub ended: Transcript,

@@ -15,7 +15,7 @@ use magnetar_field::gf128::Gf128;
 use magnetar_field::{gf128, sizes, words};
 
 // Three sums over pairs: of the constant coefficients, of the values at 1, and of the highest coefficients.
-#[derive(Drop)]
+#[derive(Clone, Copy)]
 struct Sums {
     zero: Gf128,
     one: Gf128,

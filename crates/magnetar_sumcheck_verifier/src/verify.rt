@@ -19,7 +19,7 @@ fn multiply_add(acc: Gf128, t: Gf128, z: Gf128) -> Gf128
 }
 
 // What a round leaves: the number of its refusal or 0, whether the message was right, and the running claim.
-#[derive(Drop)]
+#[derive(Clone, Copy)]
 pub struct Round {
     pub code: u32,
     pub holds: bool,

@@ -10,7 +10,7 @@ use magnetar_hash::transcript;
 use magnetar_hash::transcript::Transcript;
 
 // The number of the refusal, 0 for none, and the element, 0 where the draw is refused.
-#[derive(Drop)]
+#[derive(Clone, Copy)]
 pub struct Drawn {
     pub code: u32,
     pub element: Gf128,

@@ -1,5 +1,7 @@
 // Answers the queries of standard input, a line for each: the recorded answers are `stdout`
 // (docs/VECTORS.md says what each query asks and where its answer comes from). A line that begins with # is copied.
+#![tactic(auto)]
+
 mod field;
 mod hash;
 mod matrix;

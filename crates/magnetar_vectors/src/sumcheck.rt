@@ -34,7 +34,7 @@ const EQNEXT: u64 = 0x65716e657874;
 
 // What a sum-check carries from round to round: the product of eq over the bound variables, the running claim, and whether all
 // messages were right.
-#[derive(Drop)]
+#[derive(Clone, Copy)]
 struct Run {
     k: Gf128,
     claim: Gf128,

@@ -18,7 +18,7 @@ use magnetar_protocol::first::Found;
 use magnetar_sumcheck_verifier::verify;
 
 // What was found, and the running claim.
-#[derive(Drop)]
+#[derive(Clone, Copy)]
 pub(crate) struct Run {
     pub found: Found,
     pub claim: Gf128,

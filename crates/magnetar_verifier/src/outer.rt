@@ -19,7 +19,7 @@ use magnetar_sumcheck_prover::public;
 use magnetar_sumcheck_verifier::verify;
 
 // What was found, and the running claims of both systems.
-#[derive(Drop)]
+#[derive(Clone, Copy)]
 struct Both {
     found: Found,
     bin: Gf128,

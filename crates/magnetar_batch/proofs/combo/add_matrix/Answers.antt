@@ -1,0 +1,5 @@
+use borrow.Author.Rules.{rules}
+use Rattle.magnetar_batch.proofs.combo.add_matrix.Goals as goal
+
+pub returns : goal.returns
+returns c = rw (c.add_columns.ensures, c.eq_behind.ensures)

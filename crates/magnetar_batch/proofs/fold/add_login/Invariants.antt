@@ -1,0 +1,16 @@
+use Rattle.core.specs.Prelude.{◌≡◌, ◌-◌, ◌*◌, ◌≤◌, length}
+use mathlib.Core.Path.{refl}
+use mathlib.Core.Logic.{inl, inr}
+use native.Mathlib.Omega.{arith}
+use Rattle.magnetar_field.specs.Gf128.{value}
+use Rattle.magnetar_field.specs.Words.{elements}
+use Rattle.magnetar_matrix.specs.Table.{raised}
+use Rattle.magnetar_batch.proofs.Selected.{up_to, columns-start, columns-more, columns-end}
+use borrow.Author.Rules.{rules}
+use Rattle.magnetar_batch.proofs.fold.add_login.Given as goal
+
+abbrev pub invariant-loop-k : goal.invariant-loop-k
+invariant-loop-k l = (length l.out ≡ length l.initial.out) × (l.base ≡ 64 * l.k) × (l.base ≤ 65536) × (elements l.out ≡ raised (up_to l.login l.w (value l.e) l.base) (elements l.initial.out))
+
+abbrev pub decreases-loop-k : goal.decreases-loop-k
+decreases-loop-k l = length l.login - l.k

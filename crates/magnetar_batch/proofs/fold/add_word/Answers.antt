@@ -1,0 +1,32 @@
+use Rattle.core.specs.Prelude.{◌≡◌, ◌^◌, ◌<◌, length}
+use mathlib.Core.Path.{refl}
+use native.Mathlib.Omega.{arith}
+use lib.Count.{trailing_le}
+use Rattle.magnetar_field.specs.Gf128.{value}
+use Rattle.magnetar_field.specs.Words.{elements}
+use Rattle.magnetar_matrix.proofs.TableLaws.{added-in}
+use Rattle.magnetar_matrix.proofs.SetBits.{lowest, cleared-less}
+use Rattle.magnetar_batch.proofs.Selected.{Selected, selected-start, selected-more, selected-end}
+use borrow.Author.Rules.{rules}
+use Rattle.magnetar_batch.proofs.fold.add_word.Goals as goal
+
+pub loop-left-init : goal.loop-left-init
+loop-left-init c = (refl, search rules, selected-start _ _ _ _)
+
+pub overflow_cast-b : goal.overflow_cast-b
+overflow_cast-b c = omega (arith, trailing_le 64 c.loop-left.left)
+
+pub overflow_add-base : goal.overflow_add-base
+overflow_add-base c = omega (arith, trailing_le 64 c.loop-left.left)
+
+pub loop-left-smaller : goal.loop-left-smaller
+loop-left-smaller c = cleared-less c.loop-left.left (omega arith)
+
+pub loop-left-preserved : goal.loop-left-preserved
+loop-left-preserved c =
+    let l = c.loop-left in
+    let p : 0 < l.left = omega arith in
+    (search rules, omega (arith, cleared-less l.left p), rw (c.add_at.ensures, added-in) (selected-more _ _ _ _ _ _ l.invariant.2 _ (lowest 64 l.left p l.invariant.1)))
+
+pub returns : goal.returns
+returns c = selected-end _ _ _ _ _ _ c.loop-left.invariant.2 c.loop-left-test.false

@@ -1,0 +1,286 @@
+use Rattle.core.specs.Prelude.{◌≡◌, ◌+◌, ◌*◌, ◌≤◌, ◌++◌, length}
+use mathlib.Core.Path.{refl, sym, ◌∙◌}
+use native.Mathlib.Omega.{arith}
+use lib.Seq.{length-take-le}
+use borrow.Author.Tests.{ltb-false, eqb-true, not-false}
+use Rattle.magnetar_field.specs.Sizes.{log₂}
+use Rattle.magnetar_layout.specs.Tests.{Tests, first_refusal, length_test, room_test, Sized}
+use Rattle.magnetar_r1cs.proofs.Points.{point-of, log-most}
+use Rattle.magnetar_matrix.specs.Packed.{login_words}
+use Rattle.magnetar_layout.specs.Tests.{size_tests, packed_tests}
+use Rattle.magnetar_batch.specs.Entries.{fold_refusal}
+use Rattle.magnetar_layout.proofs.FirstRefusal.{first-refusal-front, first-refusal-late, first-refusal-clear, turned, done}
+use Rattle.magnetar_layout.proofs.Laid.{half-size}
+use Rattle.magnetar_layout.proofs.SizeLaws.{not-bad, sized-wider}
+use Rattle.magnetar_matrix.proofs.TableLaws.{in-front}
+use Rattle.magnetar_matrix.proofs.LoginParts.{product-most, words-most}
+use Rattle.magnetar_batch.proofs.Folds.{fold_is}
+use Rattle.magnetar_r1cs.proofs.Points.{point-size}
+use lib.Dec.{lit≤}
+use borrow.Author.Rules.{rules}
+use Rattle.magnetar_batch.proofs.fold.fold_packed_w.Goals as goal
+
+-- what is known of the sizes, and once nothing is refused
+record Small (s : goal.Start) : Type 0 where
+  half : s.args.w ≤ 32768
+  logins : Sized 1 4096 s.args.q
+
+record Fits (s : goal.Start) : Type 0 where
+  packed : length s.args.packed.now ≡ s.args.q * login_words s.args.w
+  point : length s.args.point.now ≡ 2 * log₂ s.args.q
+  out : 2 * s.args.w ≤ length s.args.out.now
+  scratch : 2 * s.args.q ≤ length s.args.scratch.now
+
+pub returns-then-n-ne0 : goal.returns-then-n-ne0
+unfolding fold_refusal
+returns-then-n-ne0 c =
+    let first : Tests =
+        size_tests (2 * c.args.w) c.args.q in
+    let rest : Tests =
+        let x = c.args in packed_tests x.w x.q x.packed.now ++ length_test (2 * log₂ x.q) x.point.now ++ room_test (2 * x.w) x.out.now ++ room_test (2 * x.q) x.scratch.now in
+    let early : c.refuse-n-2.result ≡ first_refusal 0 (first) =
+        rw (c.refuse-n-2.ensures, c.is_size-2.ensures, c.refuse-n.ensures, c.is_size.ensures, half-size c.args.w) in
+    let e = first-refusal-front (first) (rest) _ (early) c.if-n-ne0.true in record {
+      answer = e;
+      folded = turned _ _ e c.if-n-ne0.true;
+      cleared = turned _ _ e c.if-n-ne0.true;
+    }
+
+pub overflow_mul-q : goal.overflow_mul-q
+overflow_mul-q c =
+    let first : Tests =
+        size_tests (2 * c.args.w) c.args.q in
+    let early : c.refuse-n-2.result ≡ first_refusal 0 (first) =
+        rw (c.refuse-n-2.ensures, c.is_size-2.ensures, c.refuse-n.ensures, c.is_size.ensures, half-size c.args.w) in
+    let small : Small c.before.before.before.before.before.before.before.before.before =
+        let k = (first-refusal-clear 0 (first) refl (sym (early) ∙ c.if-n-ne0.false)).1 in
+        let z = not-bad k.0 in
+        record { half = omega (arith, z.high); logins = not-bad k.1.0 } in
+    let z = (small).logins in omega (
+  arith,
+  product-most c.args.q c.login_words.result z.high (rw c.login_words.ensures (words-most _ (small).half)),
+)
+
+pub overflow_mul-log2 : goal.overflow_mul-log2
+overflow_mul-log2 c =
+    let first : Tests =
+        size_tests (2 * c.args.w) c.args.q in
+    let early : c.refuse-n-2.result ≡ first_refusal 0 (first) =
+        rw (c.refuse-n-2.ensures, c.is_size-2.ensures, c.refuse-n.ensures, c.is_size.ensures, half-size c.args.w) in
+    let small : Small c.before.before.before.before.before.before.before.before.before =
+        let k = (first-refusal-clear 0 (first) refl (sym (early) ∙ c.if-n-ne0.false)).1 in
+        let z = not-bad k.0 in
+        record { half = omega (arith, z.high); logins = not-bad k.1.0 } in
+    let z = sized-wider 65536 (lit≤ tt) (small).logins in
+    omega (arith, c.log2.ensures.0, log-most _ z.high z.power)
+
+pub overflow_mul-w : goal.overflow_mul-w
+overflow_mul-w c =
+    let first : Tests =
+        size_tests (2 * c.args.w) c.args.q in
+    let early : c.refuse-n-2.result ≡ first_refusal 0 (first) =
+        rw (c.refuse-n-2.ensures, c.is_size-2.ensures, c.refuse-n.ensures, c.is_size.ensures, half-size c.args.w) in
+    let small : Small c.before.before.before.before.before.before.before.before.before =
+        let k = (first-refusal-clear 0 (first) refl (sym (early) ∙ c.if-n-ne0.false)).1 in
+        let z = not-bad k.0 in
+        record { half = omega (arith, z.high); logins = not-bad k.1.0 } in
+    omega (arith, (small).half)
+
+pub overflow_mul-q-2 : goal.overflow_mul-q-2
+overflow_mul-q-2 c =
+    let first : Tests =
+        size_tests (2 * c.args.w) c.args.q in
+    let early : c.refuse-n-2.result ≡ first_refusal 0 (first) =
+        rw (c.refuse-n-2.ensures, c.is_size-2.ensures, c.refuse-n.ensures, c.is_size.ensures, half-size c.args.w) in
+    let small : Small c.before.before.before.before.before.before.before.before.before =
+        let k = (first-refusal-clear 0 (first) refl (sym (early) ∙ c.if-n-ne0.false)).1 in
+        let z = not-bad k.0 in
+        record { half = omega (arith, z.high); logins = not-bad k.1.0 } in
+    omega (arith, (small).logins.high)
+
+pub returns-then-n-ne0-2 : goal.returns-then-n-ne0-2
+unfolding fold_refusal
+returns-then-n-ne0-2 c =
+    let first : Tests =
+        size_tests (2 * c.args.w) c.args.q in
+    let rest : Tests =
+        let x = c.args in packed_tests x.w x.q x.packed.now ++ length_test (2 * log₂ x.q) x.point.now ++ room_test (2 * x.w) x.out.now ++ room_test (2 * x.q) x.scratch.now in
+    let early : c.refuse-n-2.result ≡ first_refusal 0 (first) =
+        rw (c.refuse-n-2.ensures, c.is_size-2.ensures, c.refuse-n.ensures, c.is_size.ensures, half-size c.args.w) in
+    let late : c.refuse-n-6.result ≡ first_refusal 0 (rest) =
+        rw (
+      c.refuse-n-6.ensures,
+      c.refuse-n-5.ensures,
+      c.refuse-n-4.ensures,
+      c.log2.ensures.0,
+      c.refuse-n-3.ensures,
+      c.login_words.ensures,
+    ) in
+    let e = first-refusal-late (first) (rest) _ _ (early) c.if-n-ne0.false (late) in record {
+      answer = e;
+      folded = turned _ _ e c.if-n-ne0-2.true;
+      cleared = turned _ _ e c.if-n-ne0-2.true;
+    }
+
+pub overflow_mul-end : goal.overflow_mul-end
+overflow_mul-end c =
+    let first : Tests =
+        size_tests (2 * c.args.w) c.args.q in
+    let early : c.refuse-n-2.result ≡ first_refusal 0 (first) =
+        rw (c.refuse-n-2.ensures, c.is_size-2.ensures, c.refuse-n.ensures, c.is_size.ensures, half-size c.args.w) in
+    let small : Small c.before.before.before.before.before.before.before.before.before =
+        let k = (first-refusal-clear 0 (first) refl (sym (early) ∙ c.if-n-ne0.false)).1 in
+        let z = not-bad k.0 in
+        record { half = omega (arith, z.high); logins = not-bad k.1.0 } in
+    omega (arith, (small).half)
+
+pub overflow_mul-room : goal.overflow_mul-room
+overflow_mul-room c =
+    let first : Tests =
+        size_tests (2 * c.args.w) c.args.q in
+    let early : c.refuse-n-2.result ≡ first_refusal 0 (first) =
+        rw (c.refuse-n-2.ensures, c.is_size-2.ensures, c.refuse-n.ensures, c.is_size.ensures, half-size c.args.w) in
+    let small : Small c.before.before.before.before.before.before.before.before.before =
+        let k = (first-refusal-clear 0 (first) refl (sym (early) ∙ c.if-n-ne0.false)).1 in
+        let z = not-bad k.0 in
+        record { half = omega (arith, z.high); logins = not-bad k.1.0 } in
+    omega (arith, (small).logins.high)
+
+pub slice_bounds-fold_in-end : goal.slice_bounds-fold_in-end
+slice_bounds-fold_in-end c =
+    let rest : Tests =
+        let x = c.args in packed_tests x.w x.q x.packed.now ++ length_test (2 * log₂ x.q) x.point.now ++ room_test (2 * x.w) x.out.now ++ room_test (2 * x.q) x.scratch.now in
+    let late : c.refuse-n-6.result ≡ first_refusal 0 (rest) =
+        rw (
+      c.refuse-n-6.ensures,
+      c.refuse-n-5.ensures,
+      c.refuse-n-4.ensures,
+      c.log2.ensures.0,
+      c.refuse-n-3.ensures,
+      c.login_words.ensures,
+    ) in
+    let fits : Fits c.before.before.before.before.before.before.before.before.before.before.before.before.before.before.before.before =
+        let k = (first-refusal-clear 0 (rest) refl (sym (late) ∙ c.if-n-ne0-2.false)).1 in
+        record { packed = eqb-true _ _ (not-false _ k.0); point = eqb-true _ _ (not-false _ k.1.0); out = ltb-false _ _ k.1.1.0; scratch = ltb-false _ _ k.1.1.1.0 } in
+    (fits).out
+
+pub slice_bounds-fold_in-end-2 : goal.slice_bounds-fold_in-end-2
+slice_bounds-fold_in-end-2 c =
+    let rest : Tests =
+        let x = c.args in packed_tests x.w x.q x.packed.now ++ length_test (2 * log₂ x.q) x.point.now ++ room_test (2 * x.w) x.out.now ++ room_test (2 * x.q) x.scratch.now in
+    let late : c.refuse-n-6.result ≡ first_refusal 0 (rest) =
+        rw (
+      c.refuse-n-6.ensures,
+      c.refuse-n-5.ensures,
+      c.refuse-n-4.ensures,
+      c.log2.ensures.0,
+      c.refuse-n-3.ensures,
+      c.login_words.ensures,
+    ) in
+    let fits : Fits c.before.before.before.before.before.before.before.before.before.before.before.before.before.before.before.before =
+        let k = (first-refusal-clear 0 (rest) refl (sym (late) ∙ c.if-n-ne0-2.false)).1 in
+        record { packed = eqb-true _ _ (not-false _ k.0); point = eqb-true _ _ (not-false _ k.1.0); out = ltb-false _ _ k.1.1.0; scratch = ltb-false _ _ k.1.1.1.0 } in
+    sym (length-take-le _ _ (fits).out)
+
+pub slice_bounds-fold_in-end-3 : goal.slice_bounds-fold_in-end-3
+slice_bounds-fold_in-end-3 c =
+    let rest : Tests =
+        let x = c.args in packed_tests x.w x.q x.packed.now ++ length_test (2 * log₂ x.q) x.point.now ++ room_test (2 * x.w) x.out.now ++ room_test (2 * x.q) x.scratch.now in
+    let late : c.refuse-n-6.result ≡ first_refusal 0 (rest) =
+        rw (
+      c.refuse-n-6.ensures,
+      c.refuse-n-5.ensures,
+      c.refuse-n-4.ensures,
+      c.log2.ensures.0,
+      c.refuse-n-3.ensures,
+      c.login_words.ensures,
+    ) in
+    let fits : Fits c.before.before.before.before.before.before.before.before.before.before.before.before.before.before.before.before =
+        let k = (first-refusal-clear 0 (rest) refl (sym (late) ∙ c.if-n-ne0-2.false)).1 in
+        record { packed = eqb-true _ _ (not-false _ k.0); point = eqb-true _ _ (not-false _ k.1.0); out = ltb-false _ _ k.1.1.0; scratch = ltb-false _ _ k.1.1.1.0 } in
+    (fits).scratch
+
+pub slice_bounds-fold_in-end-4 : goal.slice_bounds-fold_in-end-4
+slice_bounds-fold_in-end-4 c =
+    let rest : Tests =
+        let x = c.args in packed_tests x.w x.q x.packed.now ++ length_test (2 * log₂ x.q) x.point.now ++ room_test (2 * x.w) x.out.now ++ room_test (2 * x.q) x.scratch.now in
+    let late : c.refuse-n-6.result ≡ first_refusal 0 (rest) =
+        rw (
+      c.refuse-n-6.ensures,
+      c.refuse-n-5.ensures,
+      c.refuse-n-4.ensures,
+      c.log2.ensures.0,
+      c.refuse-n-3.ensures,
+      c.login_words.ensures,
+    ) in
+    let fits : Fits c.before.before.before.before.before.before.before.before.before.before.before.before.before.before.before.before =
+        let k = (first-refusal-clear 0 (rest) refl (sym (late) ∙ c.if-n-ne0-2.false)).1 in
+        record { packed = eqb-true _ _ (not-false _ k.0); point = eqb-true _ _ (not-false _ k.1.0); out = ltb-false _ _ k.1.1.0; scratch = ltb-false _ _ k.1.1.1.0 } in
+    sym (length-take-le _ _ (fits).scratch)
+
+pub fold_in-requires : goal.fold_in-requires
+fold_in-requires c =
+    let first : Tests =
+        size_tests (2 * c.args.w) c.args.q in
+    let rest : Tests =
+        let x = c.args in packed_tests x.w x.q x.packed.now ++ length_test (2 * log₂ x.q) x.point.now ++ room_test (2 * x.w) x.out.now ++ room_test (2 * x.q) x.scratch.now in
+    let early : c.refuse-n-2.result ≡ first_refusal 0 (first) =
+        rw (c.refuse-n-2.ensures, c.is_size-2.ensures, c.refuse-n.ensures, c.is_size.ensures, half-size c.args.w) in
+    let late : c.refuse-n-6.result ≡ first_refusal 0 (rest) =
+        rw (
+      c.refuse-n-6.ensures,
+      c.refuse-n-5.ensures,
+      c.refuse-n-4.ensures,
+      c.log2.ensures.0,
+      c.refuse-n-3.ensures,
+      c.login_words.ensures,
+    ) in
+    let small : Small c.before.before.before.before.before.before.before.before.before =
+        let k = (first-refusal-clear 0 (first) refl (sym (early) ∙ c.if-n-ne0.false)).1 in
+        let z = not-bad k.0 in
+        record { half = omega (arith, z.high); logins = not-bad k.1.0 } in
+    let fits : Fits c.before.before.before.before.before.before.before.before.before.before.before.before.before.before.before.before =
+        let k = (first-refusal-clear 0 (rest) refl (sym (late) ∙ c.if-n-ne0-2.false)).1 in
+        record { packed = eqb-true _ _ (not-false _ k.0); point = eqb-true _ _ (not-false _ k.1.0); out = ltb-false _ _ k.1.1.0; scratch = ltb-false _ _ k.1.1.1.0 } in
+    let f = fits in
+    let m = small in record {
+      w_bound = (m.half, m.logins.high, f.packed);
+      out_len = rw (length-take-le _ _ f.out) (omega arith);
+      point = point-of _ _ _ _ (sized-wider 65536 (lit≤ tt) m.logins) f.point (length-take-le _ _ f.scratch);
+    }
+
+pub returns : goal.returns
+unfolding fold_refusal
+returns c =
+    let first : Tests =
+        size_tests (2 * c.args.w) c.args.q in
+    let rest : Tests =
+        let x = c.args in packed_tests x.w x.q x.packed.now ++ length_test (2 * log₂ x.q) x.point.now ++ room_test (2 * x.w) x.out.now ++ room_test (2 * x.q) x.scratch.now in
+    let early : c.refuse-n-2.result ≡ first_refusal 0 (first) =
+        rw (c.refuse-n-2.ensures, c.is_size-2.ensures, c.refuse-n.ensures, c.is_size.ensures, half-size c.args.w) in
+    let late : c.refuse-n-6.result ≡ first_refusal 0 (rest) =
+        rw (
+      c.refuse-n-6.ensures,
+      c.refuse-n-5.ensures,
+      c.refuse-n-4.ensures,
+      c.log2.ensures.0,
+      c.refuse-n-3.ensures,
+      c.login_words.ensures,
+    ) in
+    let small : Small c.before.before.before.before.before.before.before.before.before =
+        let k = (first-refusal-clear 0 (first) refl (sym (early) ∙ c.if-n-ne0.false)).1 in
+        let z = not-bad k.0 in
+        record { half = omega (arith, z.high); logins = not-bad k.1.0 } in
+    let fits : Fits c.before.before.before.before.before.before.before.before.before.before.before.before.before.before.before.before =
+        let k = (first-refusal-clear 0 (rest) refl (sym (late) ∙ c.if-n-ne0-2.false)).1 in
+        record { packed = eqb-true _ _ (not-false _ k.0); point = eqb-true _ _ (not-false _ k.1.0); out = ltb-false _ _ k.1.1.0; scratch = ltb-false _ _ k.1.1.1.0 } in
+    let s = c in
+    let x = s.args in
+    let k = c in
+    let e = sym k.if-n-ne0-2.false ∙ first-refusal-late (first) (rest) _ _ (early) k.if-n-ne0.false (late) in
+    let f = fits in
+    let z = sized-wider 65536 (lit≤ tt) (small).logins in record {
+      answer = e;
+      folded = in-front _ _ _ _ f.out c.fold_in.ensures.out_after ∙ rw (fold_is x.q x.w x.packed.now _ (point-size _ _ _ z f.point)) (done _ _ e refl);
+      cleared = rw (c.fold_in.ensures.s_after, length-take-le (2 * x.q) x.scratch.now f.scratch) (done _ _ e refl);
+    }

@@ -1,0 +1,237 @@
+use Rattle.core.specs.Prelude.{◌≡◌, ◌+◌, ◌*◌, ◌≤◌, ◌++◌, length, drop, replicate}
+use mathlib.Core.Path.{refl, sym, ◌∙◌}
+use mathlib.Core.List.{append_assoc}
+use native.Mathlib.Omega.{arith}
+use lib.Dec.{lit≤}
+use lib.ListN.{length-drop}
+use lib.Seq.{length-take-le}
+use borrow.Author.Tests.{ltb-false, eqb-true, not-false}
+use Rattle.magnetar_field.specs.Sizes.{log₂}
+use Rattle.magnetar_field.specs.Words.{elements, words}
+use Rattle.magnetar_layout.specs.Tests.{Tests, first_refusal, size_tests, public_tests, length_test, room_test, Sized}
+use Rattle.magnetar_matrix.specs.Packed.{public_words, public_of}
+use Rattle.magnetar_matrix.specs.Batch.{public_folded}
+use Rattle.magnetar_layout.proofs.Laid.{half-size}
+use Rattle.magnetar_layout.proofs.SizeLaws.{not-bad, sized-wider}
+use Rattle.magnetar_r1cs.proofs.Points.{point-of, point-size, log-most}
+use Rattle.magnetar_layout.proofs.FirstRefusal.{first-refusal-front, first-refusal-late, first-refusal-clear, turned, done}
+use Rattle.magnetar_matrix.proofs.PublicParts.{public-most}
+use Rattle.magnetar_batch.specs.Entries.{public_in_refusal}
+use Rattle.magnetar_batch.proofs.Halves.{halves_are}
+use borrow.Author.Rules.{rules}
+use Rattle.magnetar_batch.proofs.fold.fold_public_in.Goals as goal
+
+-- what is known of the sizes, and once nothing is refused
+record Small (s : goal.Start) : Type 0 where
+  least : 1 ≤ s.args.w
+  half : s.args.w ≤ 32768
+  logins : Sized 1 4096 s.args.q
+
+record Fits (s : goal.Start) : Type 0 where
+  public : length s.args.x.now ≡ s.args.q * public_words s.args.w
+  point : length s.args.point.now ≡ 2 * log₂ s.args.q
+  room : 2 * s.args.w + 2 * s.args.q ≤ length s.args.s.now
+
+pub returns-then-n-ne0 : goal.returns-then-n-ne0
+unfolding public_in_refusal
+returns-then-n-ne0 c =
+    let first : Tests =
+        size_tests (2 * c.args.w) c.args.q in
+    let rest : Tests =
+        let x = c.args in
+        public_tests (2 * x.w) x.q x.x.now ++ length_test (2 * log₂ x.q) x.point.now ++ room_test (2 * x.w + 2 * x.q) x.s.now in
+    let early : c.refuse-n-2.result ≡ first_refusal 0 (first) =
+        rw (c.refuse-n-2.ensures, c.is_size-2.ensures, c.refuse-n.ensures, c.is_size.ensures, half-size c.args.w) in
+    let s = c in
+    let e = first-refusal-front (first) (rest) _ (early) c.if-n-ne0.true in record {
+      answer = e;
+      folded = turned _ _ e c.if-n-ne0.true;
+    }
+
+pub overflow_mul-end : goal.overflow_mul-end
+overflow_mul-end c =
+    let first : Tests =
+        size_tests (2 * c.args.w) c.args.q in
+    let early : c.refuse-n-2.result ≡ first_refusal 0 (first) =
+        rw (c.refuse-n-2.ensures, c.is_size-2.ensures, c.refuse-n.ensures, c.is_size.ensures, half-size c.args.w) in
+    let small : Small c.before.before.before.before.before.before.before.before =
+        let k = (first-refusal-clear 0 (first) refl (sym (early) ∙ c.if-n-ne0.false)).1 in
+        let z = not-bad k.0 in
+        record { least = omega (arith, z.low); half = omega (arith, z.high); logins = not-bad k.1.0 } in
+    omega (arith, (small).half)
+
+pub overflow_mul-end-2 : goal.overflow_mul-end-2
+overflow_mul-end-2 c =
+    let first : Tests =
+        size_tests (2 * c.args.w) c.args.q in
+    let early : c.refuse-n-2.result ≡ first_refusal 0 (first) =
+        rw (c.refuse-n-2.ensures, c.is_size-2.ensures, c.refuse-n.ensures, c.is_size.ensures, half-size c.args.w) in
+    let small : Small c.before.before.before.before.before.before.before.before =
+        let k = (first-refusal-clear 0 (first) refl (sym (early) ∙ c.if-n-ne0.false)).1 in
+        let z = not-bad k.0 in
+        record { least = omega (arith, z.low); half = omega (arith, z.high); logins = not-bad k.1.0 } in
+    omega (arith, (small).logins.high)
+
+pub overflow_add-end : goal.overflow_add-end
+overflow_add-end c =
+    let first : Tests =
+        size_tests (2 * c.args.w) c.args.q in
+    let early : c.refuse-n-2.result ≡ first_refusal 0 (first) =
+        rw (c.refuse-n-2.ensures, c.is_size-2.ensures, c.refuse-n.ensures, c.is_size.ensures, half-size c.args.w) in
+    let small : Small c.before.before.before.before.before.before.before.before =
+        let k = (first-refusal-clear 0 (first) refl (sym (early) ∙ c.if-n-ne0.false)).1 in
+        let z = not-bad k.0 in
+        record { least = omega (arith, z.low); half = omega (arith, z.high); logins = not-bad k.1.0 } in
+    let m = small in omega (arith, m.half, m.logins.high)
+
+pub overflow_mul-w : goal.overflow_mul-w
+overflow_mul-w c =
+    let first : Tests =
+        size_tests (2 * c.args.w) c.args.q in
+    let early : c.refuse-n-2.result ≡ first_refusal 0 (first) =
+        rw (c.refuse-n-2.ensures, c.is_size-2.ensures, c.refuse-n.ensures, c.is_size.ensures, half-size c.args.w) in
+    let small : Small c.before.before.before.before.before.before.before.before =
+        let k = (first-refusal-clear 0 (first) refl (sym (early) ∙ c.if-n-ne0.false)).1 in
+        let z = not-bad k.0 in
+        record { least = omega (arith, z.low); half = omega (arith, z.high); logins = not-bad k.1.0 } in
+    omega (arith, (small).half)
+
+pub overflow_sub-w : goal.overflow_sub-w
+overflow_sub-w c =
+    let first : Tests =
+        size_tests (2 * c.args.w) c.args.q in
+    let early : c.refuse-n-2.result ≡ first_refusal 0 (first) =
+        rw (c.refuse-n-2.ensures, c.is_size-2.ensures, c.refuse-n.ensures, c.is_size.ensures, half-size c.args.w) in
+    let small : Small c.before.before.before.before.before.before.before.before =
+        let k = (first-refusal-clear 0 (first) refl (sym (early) ∙ c.if-n-ne0.false)).1 in
+        let z = not-bad k.0 in
+        record { least = omega (arith, z.low); half = omega (arith, z.high); logins = not-bad k.1.0 } in
+    omega (arith, (small).least)
+
+pub overflow_mul-q : goal.overflow_mul-q
+overflow_mul-q c =
+    let first : Tests =
+        size_tests (2 * c.args.w) c.args.q in
+    let early : c.refuse-n-2.result ≡ first_refusal 0 (first) =
+        rw (c.refuse-n-2.ensures, c.is_size-2.ensures, c.refuse-n.ensures, c.is_size.ensures, half-size c.args.w) in
+    let small : Small c.before.before.before.before.before.before.before.before =
+        let k = (first-refusal-clear 0 (first) refl (sym (early) ∙ c.if-n-ne0.false)).1 in
+        let z = not-bad k.0 in
+        record { least = omega (arith, z.low); half = omega (arith, z.high); logins = not-bad k.1.0 } in
+    let m = small in omega (arith, public-most c.args.q _ m.logins.high m.half)
+
+pub overflow_mul-log2 : goal.overflow_mul-log2
+overflow_mul-log2 c =
+    let first : Tests =
+        size_tests (2 * c.args.w) c.args.q in
+    let early : c.refuse-n-2.result ≡ first_refusal 0 (first) =
+        rw (c.refuse-n-2.ensures, c.is_size-2.ensures, c.refuse-n.ensures, c.is_size.ensures, half-size c.args.w) in
+    let small : Small c.before.before.before.before.before.before.before.before =
+        let k = (first-refusal-clear 0 (first) refl (sym (early) ∙ c.if-n-ne0.false)).1 in
+        let z = not-bad k.0 in
+        record { least = omega (arith, z.low); half = omega (arith, z.high); logins = not-bad k.1.0 } in
+    let z = sized-wider 65536 (lit≤ tt) (small).logins in
+    omega (arith, c.log2.ensures.0, log-most _ z.high z.power)
+
+pub returns-then-n-ne0-2 : goal.returns-then-n-ne0-2
+unfolding public_in_refusal
+returns-then-n-ne0-2 c =
+    let first : Tests =
+        size_tests (2 * c.args.w) c.args.q in
+    let rest : Tests =
+        let x = c.args in
+        public_tests (2 * x.w) x.q x.x.now ++ length_test (2 * log₂ x.q) x.point.now ++ room_test (2 * x.w + 2 * x.q) x.s.now in
+    let early : c.refuse-n-2.result ≡ first_refusal 0 (first) =
+        rw (c.refuse-n-2.ensures, c.is_size-2.ensures, c.refuse-n.ensures, c.is_size.ensures, half-size c.args.w) in
+    let late : c.refuse-n-5.result ≡ first_refusal 0 (rest) =
+        rw (c.refuse-n-5.ensures, c.refuse-n-4.ensures, c.log2.ensures.0, c.refuse-n-3.ensures) in
+    let s = c in
+    let e = first-refusal-late (first) (rest) _ _ (early) c.if-n-ne0.false (late) in record {
+      answer = e;
+      folded = turned _ _ e c.if-n-ne0-2.true;
+    }
+
+pub slice_bounds-fold_halves-end : goal.slice_bounds-fold_halves-end
+slice_bounds-fold_halves-end c =
+    let rest : Tests =
+        let x = c.args in
+        public_tests (2 * x.w) x.q x.x.now ++ length_test (2 * log₂ x.q) x.point.now ++ room_test (2 * x.w + 2 * x.q) x.s.now in
+    let late : c.refuse-n-5.result ≡ first_refusal 0 (rest) =
+        rw (c.refuse-n-5.ensures, c.refuse-n-4.ensures, c.log2.ensures.0, c.refuse-n-3.ensures) in
+    let fits : Fits c.before.before.before.before.before.before.before.before.before.before.before.before.before =
+        let k = (first-refusal-clear 0 (rest) refl (sym (late) ∙ c.if-n-ne0-2.false)).1 in
+        record { public = eqb-true _ _ (not-false _ k.0); point = eqb-true _ _ (not-false _ k.1.0); room = ltb-false _ _ k.1.1.0 } in
+    (fits).room
+
+pub slice_bounds-fold_halves-end-2 : goal.slice_bounds-fold_halves-end-2
+slice_bounds-fold_halves-end-2 c =
+    let rest : Tests =
+        let x = c.args in
+        public_tests (2 * x.w) x.q x.x.now ++ length_test (2 * log₂ x.q) x.point.now ++ room_test (2 * x.w + 2 * x.q) x.s.now in
+    let late : c.refuse-n-5.result ≡ first_refusal 0 (rest) =
+        rw (c.refuse-n-5.ensures, c.refuse-n-4.ensures, c.log2.ensures.0, c.refuse-n-3.ensures) in
+    let fits : Fits c.before.before.before.before.before.before.before.before.before.before.before.before.before =
+        let k = (first-refusal-clear 0 (rest) refl (sym (late) ∙ c.if-n-ne0-2.false)).1 in
+        record { public = eqb-true _ _ (not-false _ k.0); point = eqb-true _ _ (not-false _ k.1.0); room = ltb-false _ _ k.1.1.0 } in
+    sym (length-take-le _ _ (fits).room)
+
+pub fold_halves-requires : goal.fold_halves-requires
+fold_halves-requires c =
+    let first : Tests =
+        size_tests (2 * c.args.w) c.args.q in
+    let rest : Tests =
+        let x = c.args in
+        public_tests (2 * x.w) x.q x.x.now ++ length_test (2 * log₂ x.q) x.point.now ++ room_test (2 * x.w + 2 * x.q) x.s.now in
+    let early : c.refuse-n-2.result ≡ first_refusal 0 (first) =
+        rw (c.refuse-n-2.ensures, c.is_size-2.ensures, c.refuse-n.ensures, c.is_size.ensures, half-size c.args.w) in
+    let late : c.refuse-n-5.result ≡ first_refusal 0 (rest) =
+        rw (c.refuse-n-5.ensures, c.refuse-n-4.ensures, c.log2.ensures.0, c.refuse-n-3.ensures) in
+    let small : Small c.before.before.before.before.before.before.before.before =
+        let k = (first-refusal-clear 0 (first) refl (sym (early) ∙ c.if-n-ne0.false)).1 in
+        let z = not-bad k.0 in
+        record { least = omega (arith, z.low); half = omega (arith, z.high); logins = not-bad k.1.0 } in
+    let fits : Fits c.before.before.before.before.before.before.before.before.before.before.before.before.before =
+        let k = (first-refusal-clear 0 (rest) refl (sym (late) ∙ c.if-n-ne0-2.false)).1 in
+        record { public = eqb-true _ _ (not-false _ k.0); point = eqb-true _ _ (not-false _ k.1.0); room = ltb-false _ _ k.1.1.0 } in
+    let x = c.args in
+    let f = fits in
+    let m = small in
+    let l = length-take-le (2 * x.w + 2 * x.q) x.s.now f.room in record {
+      le_w = (m.least, m.half, m.logins.high, f.public);
+      s_len = l;
+      point = point-of 1 x.q _ _ (sized-wider 65536 (lit≤ tt) m.logins) f.point (rw length-drop (omega arith));
+    }
+
+pub returns : goal.returns
+unfolding public_in_refusal
+returns c =
+    let first : Tests =
+        size_tests (2 * c.args.w) c.args.q in
+    let rest : Tests =
+        let x = c.args in
+        public_tests (2 * x.w) x.q x.x.now ++ length_test (2 * log₂ x.q) x.point.now ++ room_test (2 * x.w + 2 * x.q) x.s.now in
+    let early : c.refuse-n-2.result ≡ first_refusal 0 (first) =
+        rw (c.refuse-n-2.ensures, c.is_size-2.ensures, c.refuse-n.ensures, c.is_size.ensures, half-size c.args.w) in
+    let late : c.refuse-n-5.result ≡ first_refusal 0 (rest) =
+        rw (c.refuse-n-5.ensures, c.refuse-n-4.ensures, c.log2.ensures.0, c.refuse-n-3.ensures) in
+    let small : Small c.before.before.before.before.before.before.before.before =
+        let k = (first-refusal-clear 0 (first) refl (sym (early) ∙ c.if-n-ne0.false)).1 in
+        let z = not-bad k.0 in
+        record { least = omega (arith, z.low); half = omega (arith, z.high); logins = not-bad k.1.0 } in
+    let fits : Fits c.before.before.before.before.before.before.before.before.before.before.before.before.before =
+        let k = (first-refusal-clear 0 (rest) refl (sym (late) ∙ c.if-n-ne0-2.false)).1 in
+        record { public = eqb-true _ _ (not-false _ k.0); point = eqb-true _ _ (not-false _ k.1.0); room = ltb-false _ _ k.1.1.0 } in
+    let k = c in
+    let s = c in
+    let x = s.args in
+    let e = sym k.if-n-ne0-2.false ∙ first-refusal-late (first) (rest) _ _ (early) k.if-n-ne0.false (late) in
+    let f = fits in
+    let z = sized-wider 65536 (lit≤ tt) (small).logins in
+    let h = words (public_folded x.q x.w (public_of x.q x.w x.x.now) (elements x.point.now)) in record {
+      answer = e;
+      folded = rw (
+        c.fold_halves.ensures,
+        halves_are x.q x.w x.x.now (elements x.point.now) (point-size _ _ _ z f.point),
+        append_assoc h (replicate (2 * x.q) 0) (drop (2 * x.w + 2 * x.q) x.s.now),
+      ) (done _ _ e refl);
+    }

@@ -1,0 +1,9 @@
+use mathlib.Core.Path.{◌∙◌}
+use Rattle.magnetar_relation.specs.Steps.{column_added}
+use borrow.Author.Rules.{rules}
+use Rattle.magnetar_batch.proofs.table.add_column.Goals as goal
+
+pub returns : goal.returns
+unfolding column_added
+returns c =
+    c.add_to.ensures ∙ rw (c.scale.ensures, c.get_between-f.ensures)

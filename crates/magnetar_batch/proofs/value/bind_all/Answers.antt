@@ -1,0 +1,46 @@
+use Rattle.core.specs.Prelude.{◌≡◌, ℕ, ◌*◌, ◌^◌, ◌<◌, ◌≤◌, length, get_or, replicate}
+use mathlib.Core.Path.{refl, sym, ap, ◌∙◌}
+use native.Mathlib.Omega.{arith}
+use Rattle.magnetar_field.specs.Words.{elements}
+use Rattle.magnetar_field.proofs.Elements.{elements-length, elements-below}
+use Rattle.magnetar_multilinear.proofs.Evaluating.{Evaluating, evaluating-start, evaluating-end}
+use Rattle.magnetar_batch.proofs.ValueWalk.{bound-more, lower-room, half_room}
+use borrow.Author.Rules.{rules}
+use Rattle.magnetar_batch.proofs.value.bind_all.Goals as goal
+
+pub loop-j-init : goal.loop-j-init
+loop-j-init c =
+    let g = c.requires in (
+      search rules,
+      g.2,
+      (λ i. omega (arith, c.slice_known-1.given i)),
+      evaluating-start _ _ _ _ (rw elements-length (omega (arith, g.1))) (rw elements-length (omega (arith, g.2))) refl,
+    )
+
+pub bind_highest-requires : goal.bind_highest-requires
+bind_highest-requires c =
+    let l = c.loop-j in
+    let g = c.requires in
+    (omega (arith, l.invariant.0, g.0), lower-room l.j _ _ c.loop-j-test.true l.invariant.0 l.invariant.1)
+
+pub loop-j-preserved : goal.loop-j-preserved
+loop-j-preserved c =
+    let b = c in
+    let l = b.loop-j in
+    let g = b.requires in
+    let h = b.loop-j-test.true in (
+      omega (arith, l.invariant.0),
+      b.bind_highest.auto.t ∙ l.invariant.1,
+      (λ i. omega (arith, c.slice_known-in-loop-j-1.given i)),
+      bound-more _ _ _ _ l.j l.invariant.3 h (rw elements-length (omega (arith, g.1, l.invariant.0)))
+          (rw elements-length (half_room l.j _ _ l.invariant.0 l.invariant.1)) (b.bind_highest.ensures ∙ rw b.get.ensures),
+    )
+
+pub returns : goal.returns
+returns c =
+    let k = c in
+    let v = c in
+    let l = v.loop-j in (
+      v.get-v.ensures ∙ evaluating-end _ _ _ _ _ (elements-below _ l.invariant.2 0) v.loop-j-test.false l.invariant.3,
+      k.clear.ensures ∙ ap (λ (n : ℕ). replicate n 0) (l.invariant.1 ∙ sym v.requires.2),
+    )

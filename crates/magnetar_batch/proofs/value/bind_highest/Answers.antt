@@ -1,0 +1,25 @@
+use mathlib.Core.Path.{◌∙◌}
+use native.Mathlib.Omega.{arith}
+use lib.ListN.{length-take}
+use Rattle.magnetar_field.specs.Gf128.{value}
+use Rattle.magnetar_batch.proofs.ValueWalk.{power, small_power, highest-bound}
+use borrow.Author.Rules.{rules}
+use Rattle.magnetar_batch.proofs.value.bind_highest.Goals as goal
+
+pub overflow_mul-e : goal.overflow_mul-e
+overflow_mul-e c = omega (arith, power c.args.j c.requires.0 c.power_of_two-e.result c.power_of_two-e.ensures, small_power c.args.j c.requires.0)
+
+pub slice_bounds-bind_var-end : goal.slice_bounds-bind_var-end
+slice_bounds-bind_var-end c = omega (arith, power c.args.j c.requires.0 c.power_of_two-e.result c.power_of_two-e.ensures, c.requires.1)
+
+pub slice_bounds-bind_var-end-2 : goal.slice_bounds-bind_var-end-2
+slice_bounds-bind_var-end-2 c = rw length-take (omega (arith, power c.args.j c.requires.0 c.power_of_two-e.result c.power_of_two-e.ensures, c.requires.1))
+
+pub returns : goal.returns
+returns c =
+    let b = c in
+    let w = c in
+    let x = w.args in
+    let g = w.requires in
+    let e = power x.j g.0 w.power_of_two-e.result w.power_of_two-e.ensures in
+    rw e (highest-bound x.j (value x.r) x.t.now b.bind_var-done.new.table g.0 g.1 (b.bind_var-done.ensures.bound ∙ rw e))

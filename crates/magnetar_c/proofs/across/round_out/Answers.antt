@@ -1,0 +1,5 @@
+use borrow.Author.Rules.{rules}
+use Rattle.magnetar_c.proofs.across.round_out.Goals as goal
+
+pub returns : goal.returns
+returns c = rw c.element_out-claim.ensures

@@ -1,0 +1,11 @@
+use mathlib.Core.Path.{ap, ◌∙◌}
+use Rattle.magnetar_c.specs.CStructs.{evaluated}
+use borrow.Author.Rules.{rules}
+use Rattle.magnetar_c.proofs.tables.magnetar_eval_mle.Goals as goal
+
+pub returns : goal.returns
+returns c =
+    let e = c.eval_mle.ensures in record {
+      value = c.value_out.ensures ∙ ap evaluated e.value;
+      cleared = e.cleared;
+    }

@@ -1,0 +1,15 @@
+use mathlib.Core.Path.{sym, ◌∙◌}
+use Rattle.core.specs.Prelude.{◌-◌, ◌≤◌}
+use native.Mathlib.Omega.{arith}
+use borrow.Author.Tests.{not-true, not-false}
+use Rattle.magnetar_field.specs.Words.{elements}
+use Rattle.magnetar_matrix.specs.RowCheck.{holds_at}
+use Rattle.magnetar_matrix.proofs.FirstRow.{Below, below-start, below_more, first-is, first-end, rows-past}
+use borrow.Author.Rules.{rules}
+use Rattle.magnetar_check.proofs.rows.first_failing.Given as goal
+
+abbrev pub invariant-loop-row : goal.invariant-loop-row
+invariant-loop-row l = (l.row ≤ l.n) × Below (holds_at (elements l.s) l.n) l.row
+
+abbrev pub decreases-loop-row : goal.decreases-loop-row
+decreases-loop-row l = l.n - l.row

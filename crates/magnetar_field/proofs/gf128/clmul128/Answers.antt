@@ -1,0 +1,41 @@
+use Rattle.std.proofs.Common.{◌^◌, ◌<◌, ◌≤◌, ◌∙◌, arith, rules}
+use Rattle.magnetar_field.specs.Residue.{wide, pair_at, Multiples}
+use Rattle.magnetar_field.proofs.Comb.{append-word, wide-lt, multiples-self, Combed, combed-start, combed-room, combed-more, combed-end}
+use Rattle.magnetar_field.proofs.gf128.clmul128.Goals as goal
+
+pub loop-i-init : goal.loop-i-init
+loop-i-init c =
+    let x = c.args in
+    let m = c.multiples_of.ensures in
+    let e = multiples-self _ _ _ (append-word 64 x.a.hi x.a.lo (search rules) (search rules)) m in
+    (search rules, rw e m, search rules, search rules, search rules, combed-start _ x.b.lo x.b.hi (search rules) (search rules))
+
+pub comb-acc-requires : goal.comb-acc-requires
+comb-acc-requires c = combed-room _ _ _ _ _ _ c.loop-i-test.true c.loop-i.invariant.5
+
+pub loop-i-preserved : goal.loop-i-preserved
+loop-i-preserved c =
+    let l = c.loop-i in
+    let x = c.args in
+    let m = l.invariant.1 in
+    let t : 0 < l.i = c.loop-i-test.true in
+    let a = l.acc in
+    let r = combed-room _ _ _ _ _ _ t l.invariant.5 in
+    let j = c.nibble-j in
+    let k = c.nibble-k in
+    let s = c.comb-acc.ensures in (
+      omega arith,
+      m,
+      s.words.0,
+      s.words.1,
+      s.words.2,
+      combed-more _ x.b.lo x.b.hi _ _ _ _ _ _ l.i (search rules) (search rules) (wide-lt a.w0 a.w1 a.w2 a.w3 l.invariant.2 l.invariant.3 l.invariant.4 r) t l.invariant.0 l.invariant.5 s.small s.sum
+          (m.multiple j.result (omega arith) ∙ rw j.ensures) (m.multiple k.result (omega arith) ∙ rw k.ensures),
+    )
+
+pub returns : goal.returns
+returns c =
+    let x = c.args in
+    let b = append-word 64 x.a.hi x.a.lo (search rules) (search rules) in
+    let e = multiples-self _ _ _ b c.multiples_of.ensures in
+    rw e at (combed-end _ _ _ _ _ _ (rw e b) (search rules) (search rules) c.loop-i-test.false c.loop-i.invariant.5)

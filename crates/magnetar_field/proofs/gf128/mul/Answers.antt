@@ -1,0 +1,5 @@
+use Rattle.std.proofs.Common.{◌∙◌, rules}
+use Rattle.magnetar_field.proofs.gf128.mul.Goals as goal
+
+pub returns : goal.returns
+returns c = c.reduce256.ensures ∙ c.clmul128.ensures

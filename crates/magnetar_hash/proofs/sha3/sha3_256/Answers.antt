@@ -1,0 +1,6 @@
+use Rattle.std.proofs.Common.{◌∙◌, rules}
+use Rattle.magnetar_hash.proofs.Stream.{sha3-of}
+use Rattle.magnetar_hash.proofs.sha3.sha3_256.Goals as goal
+
+pub returns : goal.returns
+returns c = c.finish.ensures ∙ sha3-of c.feed-n.ensures

@@ -1,0 +1,8 @@
+use Rattle.std.proofs.Common.{ap, ◌∙◌, rules}
+use Rattle.magnetar_hash.specs.Sha3.{squeezed}
+use Rattle.magnetar_hash.specs.Sponge.{finished}
+use Rattle.magnetar_hash.proofs.sponge.finish.Goals as goal
+
+pub returns : goal.returns
+unfolding finished
+returns c = c.squeeze.ensures ∙ ap squeezed c.pad-a.ensures

@@ -1,0 +1,15 @@
+use Rattle.magnetar_hash.specs.Bytes.{ascii, le_bytes}
+use Rattle.magnetar_hash.specs.Transcript.{drawn}
+use Rattle.magnetar_hash.proofs.Parts.{four-parts}
+use Rattle.std.proofs.Common.{rules}
+use Rattle.magnetar_hash.proofs.transcript.draw.Goals as goal
+
+pub returns : goal.returns
+unfolding drawn ascii
+returns c =
+    let a = c.args in
+    rw (
+      c.wrapping_add_u64.ensures,
+      c.finish-state.ensures,
+      four-parts a.t.state (ascii "squeeze") a.label.now (le_bytes 8 a.t.squeeze_ctr) c.feed_head-a.ensures c.feed_word_part-b.ensures,
+    )

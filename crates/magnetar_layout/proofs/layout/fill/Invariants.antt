@@ -1,0 +1,17 @@
+use mathlib.Core.Path.{◌≡◌, refl, ◌∙◌}
+use mathlib.Core.List.{◌++◌}
+use Prim.Native.Nat.{◌+◌, ◌≤◌, ◌-◌}
+use native.Mathlib.Omega.{arith}
+use lib.ListN.{length, take, drop}
+use lib.Seq.{take_all}
+use Rattle.magnetar_layout.specs.Layout.{offsets}
+use Rattle.magnetar_field.proofs.Elements.{copy_more}
+use Rattle.magnetar_layout.proofs.Laid.{Laid, each-size, laid-start, laid_more, laid-within, laid-offset, next-most, offsets-length}
+use borrow.Author.Rules.{rules}
+use Rattle.magnetar_layout.proofs.layout.fill.Given as goal
+
+abbrev pub invariant-loop-i : goal.invariant-loop-i
+invariant-loop-i l = (l.i ≤ length l.lens) × (l.c ≤ l.w) × (length l.out ≡ length l.initial.out) × Laid l.lens l.c l.i × (l.out ≡ take l.i (offsets l.lens) ++ drop l.i l.initial.out)
+
+abbrev pub decreases-loop-i : goal.decreases-loop-i
+decreases-loop-i l = length l.lens - l.i

@@ -1,0 +1,11 @@
+use Rattle.std.proofs.Common.{◌≡◌, ◌-◌, ◌≤◌, length, rules}
+use Rattle.magnetar_limits.proofs.filled.places.Reads as reads
+use Rattle.magnetar_limits.proofs.filled.places.Lts as lts
+use Rattle.magnetar_limits.proofs.filled.place_of.Reads as place-of-reads
+use Rattle.magnetar_limits.proofs.filled.places.Given as goal
+
+abbrev pub invariant-loop-i : goal.invariant-loop-i
+invariant-loop-i l = (length l.all ≡ 3078) × (l.i ≤ 3078)
+
+abbrev pub decreases-loop-i : goal.decreases-loop-i
+decreases-loop-i l = 3078 - l.i

@@ -1,0 +1,16 @@
+use mathlib.Core.Path.{◌≡◌, refl, ap}
+use Prim.Native.Nat.{ℕ, ◌≤◌, ◌*◌, ◌/◌}
+use native.Mathlib.Omega.{arith}
+use lib.ListN.{length}
+use Rattle.magnetar_field.specs.Gf128.{value}
+use Rattle.magnetar_field.specs.Words.{elements}
+use Rattle.magnetar_field.proofs.Elements.{elements-length}
+use Rattle.magnetar_multilinear.proofs.Doublings.{Split, split-none, split-more, split-all}
+use borrow.Author.Rules.{rules}
+use Rattle.magnetar_multilinear.proofs.eq.expand.Given as goal
+
+abbrev pub invariant-loop-i : goal.invariant-loop-i
+invariant-loop-i l = (l.i ≤ l.m) × (length l.out ≡ length l.initial.out) × Split l.m (value l.r) (elements l.initial.out) (elements l.out) l.i
+
+abbrev pub decreases-loop-i : goal.decreases-loop-i
+decreases-loop-i l = l.i

@@ -1,0 +1,19 @@
+use mathlib.Core.Path.{◌≡◌, refl, ◌∙◌}
+use Prim.Native.Nat.{◌≤◌, ◌-◌, ◌^◌}
+use native.Mathlib.Omega.{arith}
+use lib.ListN.{length}
+use lib.Pow.{pow_pos, pow-lt}
+use Rattle.magnetar_field.specs.Gf128.{value}
+use Rattle.magnetar_field.specs.Words.{elements}
+use Rattle.magnetar_field.proofs.Elements.{elements-length}
+use Rattle.magnetar_field.proofs.Log2.{power-is}
+use Rattle.magnetar_field.proofs.Making.{Made}
+use Rattle.magnetar_multilinear.proofs.Bound.{bound_at, place-lt, bound-start, bound-more, bound-end}
+use borrow.Author.Rules.{rules}
+use Rattle.magnetar_multilinear.proofs.multilinear.bind.Given as goal
+
+abbrev pub invariant-loop-i : goal.invariant-loop-i
+invariant-loop-i l = (l.i ≤ l.pairs) × (l.block ≡ 2 ^ l.v) × (length l.t ≡ length l.initial.t) × Made (bound_at l.v (value l.r) (elements l.initial.t)) (elements l.initial.t) (elements l.t) l.i
+
+abbrev pub decreases-loop-i : goal.decreases-loop-i
+decreases-loop-i l = l.pairs - l.i

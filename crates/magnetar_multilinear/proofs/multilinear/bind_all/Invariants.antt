@@ -1,0 +1,15 @@
+use mathlib.Core.Path.{◌≡◌, ◌∙◌}
+use Prim.Native.Nat.{ℕ, ◌≤◌, ◌<◌, ◌*◌, ◌^◌}
+use native.Mathlib.Omega.{arith}
+use lib.ListN.{length, get_or}
+use Rattle.magnetar_field.specs.Words.{elements}
+use Rattle.magnetar_field.proofs.Elements.{elements-length, elements-below}
+use Rattle.magnetar_multilinear.proofs.Evaluating.{Evaluating, evaluating-start, evaluating-more, evaluating-end, evaluating-fits}
+use borrow.Author.Rules.{rules}
+use Rattle.magnetar_multilinear.proofs.multilinear.bind_all.Given as goal
+
+abbrev pub invariant-loop-j : goal.invariant-loop-j
+invariant-loop-j l = (l.j ≤ l.n) × (l.half ≤ 2 ^ l.n) × (length l.t ≡ 2 * 2 ^ l.n) × ((i : ℕ) → get_or l.t i 0 < 2 ^ 64) × Evaluating (elements l.point) (elements l.initial.t) (elements l.t) l.half l.j
+
+abbrev pub decreases-loop-j : goal.decreases-loop-j
+decreases-loop-j l = l.j

@@ -1,0 +1,5 @@
+use borrow.Author.Rules.{rules}
+use Rattle.magnetar_protocol.proofs.scratch.verifier_words.Goals as goal
+
+pub returns : goal.returns
+returns c = rw c.larger.ensures

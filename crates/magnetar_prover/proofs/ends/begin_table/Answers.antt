@@ -1,0 +1,13 @@
+use Rattle.magnetar_prover.proofs.EqTablePlaced.{eq-table-placed}
+use borrow.Author.Rules.{rules}
+use lib.Seq.{length-take-le}
+use mathlib.Core.Path.{sym}
+use native.Mathlib.Omega.{arith}
+use Rattle.magnetar_prover.proofs.ends.begin_table.Goals as goal
+
+pub slice_bounds-build-end-3 : goal.slice_bounds-build-end-3
+slice_bounds-build-end-3 c = sym (length-take-le _ _ (omega arith))
+
+pub returns : goal.returns
+returns c = let x = c.args in
+    eq-table-placed x.draws.now x.s.now c.build-done.new.out x.o x.x x.w (omega arith) (omega arith) (omega arith) c.requires.w_value c.build-done.ensures.table

@@ -1,0 +1,15 @@
+use Rattle.magnetar_hash.specs.Bytes.{ascii}
+use Rattle.magnetar_prover.proofs.Drawn.{drawn-both-times}
+use borrow.Author.Rules.{rules}
+use lib.Seq.{length-take-le}
+use mathlib.Core.Path.{sym}
+use native.Mathlib.Omega.{arith}
+use Rattle.magnetar_prover.proofs.ends.taus.Goals as goal
+
+pub slice_bounds-tau-end-2 : goal.slice_bounds-tau-end-2
+slice_bounds-tau-end-2 c = sym (length-take-le _ _ (omega arith))
+
+pub returns : goal.returns
+returns c = let x = c.args in
+    drawn-both-times x.draws.now c.tau-u.new.out c.tau-r.new.out x.t c.tau-u.result c.tau-r.result (ascii "vs-tau-bin") (ascii
+    "vs-tau-fld") x.sb x.sf (omega arith) c.tau-u.ensures.0 c.tau-u.ensures.1 c.tau-r.ensures.0 c.tau-r.ensures.1

@@ -1,0 +1,7 @@
+use Rattle.magnetar_hash.specs.Bytes.{ascii}
+use borrow.Author.Rules.{rules}
+use Rattle.magnetar_prover.proofs.events.alphas.Goals as goal
+
+pub returns : goal.returns
+unfolding ascii
+returns c = c.draw_vec.ensures

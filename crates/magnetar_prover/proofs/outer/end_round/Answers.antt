@@ -1,0 +1,18 @@
+use Rattle.magnetar_field.specs.Gf128.{value}
+use Rattle.magnetar_prover.proofs.Sent.{drawn-more}
+use borrow.Author.Rules.{rules}
+use mathlib.Core.Path.{◌∙◌, ap}
+use native.Mathlib.Omega.{arith}
+use Rattle.magnetar_prover.proofs.outer.end_round.Goals as goal
+
+pub returns : goal.returns
+returns c = let x = c.args in
+    let r = ap value c.element-r.ensures in
+    let f = c.fold.ensures in record {
+      k = c.eq_next.ensures ∙ rw c.element-r.ensures;
+      drawn = drawn-more x.draws.now c.put.new.s x.d (value c.element-r.result) c.put.ensures (omega arith) ∙ rw c.element-r.ensures;
+      a = f.a ∙ rw c.element-r.ensures;
+      b = f.b ∙ rw c.element-r.ensures;
+      c = f.c ∙ rw c.element-r.ensures;
+      e = f.e;
+    }

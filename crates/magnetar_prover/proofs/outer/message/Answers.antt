@@ -1,0 +1,22 @@
+use Prim.Native.Nat.{◌*◌, ◌≤◌}
+use Rattle.magnetar_prover.proofs.Bound.{eq-behind, eq-dropped, eq-rest}
+use borrow.Author.Rules.{rules}
+use lib.ListN.{length}
+use lib.Seq.{length-take-le}
+use mathlib.Core.Path.{◌∙◌, sym}
+use native.Mathlib.Omega.{arith}
+use Rattle.magnetar_prover.proofs.outer.message.Goals as goal
+
+pub slice_bounds-drop_var-end-2 : goal.slice_bounds-drop_var-end-2
+slice_bounds-drop_var-end-2 c = sym (length-take-le _ _ (omega arith))
+
+pub returns : goal.returns
+returns c = let x = c.args in
+    let p = c.requires in
+    let h : x.n ≤ length x.s.now = omega arith in
+    let f = eq-behind x.s.now x.n x.v p.1 h c.drop_var-done.new.table c.drop_var-done.ensures.dropped in
+    let g = eq-dropped x.s.now x.n x.v p.1 h c.drop_var-done.new.table c.drop_var-done.ensures.dropped in record {
+      written = c.send_message.ensures ∙ rw (g, f x.w x.n (omega arith), f (2 * x.w) x.n (omega arith), f (3 * x.w) x.n (omega arith));
+      dropped = g;
+      kept = eq-rest x.s.now x.n x.v p.1 h c.drop_var-done.new.table c.drop_var-done.ensures.dropped x.w (omega arith);
+    }

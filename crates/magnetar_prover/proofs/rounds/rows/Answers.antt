@@ -1,0 +1,86 @@
+use mathlib.Core.Path.{◌≡◌, sym, ap, ◌∙◌}
+use Prim.Native.Nat.{◌+◌, ◌*◌}
+use native.Mathlib.Omega.{arith}
+use lib.ListN.{length}
+use lib.Seq.{length-take-le}
+use lib.Pow.{pow_mono}
+use Rattle.magnetar_field.specs.Gf128.{value}
+use Rattle.magnetar_field.proofs.Elements.{elements-length}
+use Rattle.magnetar_prover.proofs.Blocks.{lent-behind, rest-length}
+use Rattle.magnetar_prover.proofs.OuterParts.{rows_left}
+use borrow.Author.Rules.{rules}
+use Rattle.magnetar_prover.proofs.rounds.rows.Goals as goal
+
+pub slice_bounds-rows-end-2 : goal.slice_bounds-rows-end-2
+slice_bounds-rows-end-2 c = sym (length-take-le _ _ (omega (arith, c.requires.blocks)))
+
+pub rows-u-requires : goal.rows-u-requires
+rows-u-requires c = let p = c.requires in record {
+      s_len = (
+    length-take-le _ _ (omega (
+      arith,
+      p.blocks,
+    )),
+    p.bin_most,
+    omega (
+      arith,
+      c.power_words-nb.ensures,
+      p.bin_words,
+      pow_mono {i = c.args.b} {j = c.args.l + c.args.b} (omega arith),
+    ),
+    omega (arith, p.bin_few),
+    omega (arith, p.bin_few),
+    omega (arith, p.bin_few, p.fld_few),
+    omega arith,
+    omega (arith, p.proof),
+    omega (arith, p.draws),
+  );
+      n_value = c.power_words-nb.ensures;
+    }
+
+pub rows-v-requires : goal.rows-v-requires
+rows-v-requires c = let p = c.requires in let one : length c.rows-u.new.s ≡ 4 * c.args.wb = c.rows-u.auto.s ∙ length-take-le _ _ (omega (
+  arith,
+  c.requires.blocks,
+)) in record {
+      s_len = (
+    ap length
+        (lent-behind c.args.s.now c.rows-u.new.s (4 * c.args.wb) (4 * c.args.wf) p.blocks one) ∙ rest-length c.args.s.now c.rows-u.new.s (4 * c.args.wb) (4 * c.args.wf) p.blocks one,
+    p.fld_most,
+    omega (
+      arith,
+      c.power_words-nf.ensures,
+      p.fld_words,
+      pow_mono {i = c.args.f} {j = c.args.l + c.args.f} (omega arith),
+    ),
+    omega (arith, p.fld_few),
+    omega (arith, p.bin_few),
+    omega (arith, p.bin_few, p.fld_few),
+    omega arith,
+    omega (
+      arith,
+      p.proof,
+      c.rows-u.auto.proof,
+    ),
+    omega (
+      arith,
+      p.draws,
+      c.rows-u.auto.draws,
+    ),
+  );
+      n_value = c.power_words-nf.ensures;
+    }
+
+pub returns : goal.returns
+returns c = let p = c.requires in let one : length c.rows-u.new.s ≡ 4 * c.args.wb = c.rows-u.auto.s ∙ length-take-le _ _ (omega (
+  arith,
+  c.requires.blocks,
+)) in let two : length c.rows-v.new.s ≡ 4 * c.args.wf = c.rows-v.auto.s ∙ (ap length (lent-behind c.args.s.now c.rows-u.new.s (4 * c.args.wb) (4 * c.args.wf) p.blocks
+    one) ∙ rest-length c.args.s.now c.rows-u.new.s (4 * c.args.wb) (4 * c.args.wf) p.blocks one) in rows_left
+    c.args.l c.args.b c.args.f c.args.wb c.args.wf (omega (
+      arith,
+      c.requires.bin_few,
+    )) (omega (
+      arith,
+      c.requires.fld_few,
+    )) _ _ (value c.args.kb) (value c.args.kf) _ _ c.args.t c.rows-u.result.transcript c.rows-v.result.transcript c.args.proof.now c.args.draws.now c.args.s.now c.rows-u.new.proof c.rows-u.new.draws c.rows-u.new.s c.rows-v.new.proof c.rows-v.new.draws c.rows-v.new.s c.power_words-nb.ensures c.power_words-nf.ensures p.blocks one two (rw elements-length (omega (arith, p.draws))) c.rows-u.ensures c.rows-v.ensures

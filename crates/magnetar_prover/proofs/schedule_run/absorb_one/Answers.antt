@@ -1,0 +1,22 @@
+use mathlib.Core.Path.{refl}
+use Prim.Native.Nat.{ℕ, ◌^◌, ◌<◌}
+use lib.ListN.{get_or}
+use native.Mathlib.Omega.{arith}
+use Rattle.magnetar_prover.proofs.Staging.{over, absorbed-one, part-words, part-next}
+use borrow.Author.Rules.{rules}
+use Rattle.magnetar_prover.proofs.schedule_run.absorb_one.Goals as goal
+
+pub returns-then-s-eq0 : goal.returns-then-s-eq0
+returns-then-s-eq0 c = λ next out was whole rest g. over c.if-s-eq0.true g
+
+pub returns : goal.returns
+returns c =
+    let a = c.args in
+    let p = a.proof.now in
+    let i = c.ahead-a in
+    let j = c.ahead-b in
+    let fit : (k : ℕ) → get_or p k 0 < 2 ^ 64 = λ k. omega (arith, c.shared_slice_known-2-1.given k) in
+    λ next out was whole rest g.
+    absorbed-one _ _ a.k (omega arith) (part-words p a.s.place a.k i.result j.result fit i.ensures j.ensures)
+    c.absorb_words-u.ensures refl refl
+    (part-next p a.s.place a.k i.result j.result i.ensures j.ensures) g

@@ -1,0 +1,11 @@
+use Prim.Native.Nat.{◌-◌}
+use native.Mathlib.Omega.{arith}
+use Rattle.magnetar_prover.proofs.Turns.{Times, times-start, times_more, times-end}
+use borrow.Author.Rules.{rules}
+use Rattle.magnetar_prover.proofs.schedule_run.draw_times.Given as goal
+
+abbrev pub invariant-loop-i : goal.invariant-loop-i
+invariant-loop-i l = Times l.label l.n l.initial.u l.initial.out l.i l.u l.out
+
+abbrev pub decreases-loop-i : goal.decreases-loop-i
+decreases-loop-i l = l.n - l.i

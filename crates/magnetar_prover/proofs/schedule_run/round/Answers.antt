@@ -1,0 +1,6 @@
+use borrow.Author.Rules.{rules}
+use Rattle.magnetar_prover.proofs.schedule_run.round.Goals as goal
+
+pub returns : goal.returns
+returns c = λ next was whole rest g.
+    c.draw_next.ensures _ _ was whole rest (c.absorb_next-a.ensures next _ was whole _ g)

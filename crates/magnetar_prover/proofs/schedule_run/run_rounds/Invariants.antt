@@ -1,0 +1,16 @@
+use mathlib.Core.List.{◌++◌}
+use Prim.Native.Nat.{◌-◌, ◌≤◌}
+use lib.ListN.{length}
+use Rattle.magnetar_field.specs.Words.{elements}
+use Rattle.magnetar_schedule.specs.Schedule.{decimal}
+use native.Mathlib.Omega.{arith}
+use Rattle.magnetar_prover.proofs.Turns.{Rounds, rounds-start, rounds-more, rounds-end}
+use borrow.Author.Rules.{rules}
+use Rattle.magnetar_prover.proofs.schedule_run.run_rounds.Given as goal
+
+abbrev pub invariant-loop-i : goal.invariant-loop-i
+invariant-loop-i l =
+    (length l.prefix ≤ 28) × Rounds (elements l.proof) (λ j. l.prefix ++ decimal 20 j) l.k l.n l.initial.u l.initial.out l.i l.u l.out
+
+abbrev pub decreases-loop-i : goal.decreases-loop-i
+decreases-loop-i l = l.n - l.i

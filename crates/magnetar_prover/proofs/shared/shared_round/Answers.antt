@@ -1,0 +1,81 @@
+use Prim.Native.Nat.{◌*◌, ◌≤◌, ℕ}
+use Rattle.magnetar_field.proofs.Elements.{elements-length}
+use Rattle.magnetar_field.specs.Gf128.{value}
+use Rattle.magnetar_field.specs.Words.{elements}
+use Rattle.magnetar_hash.specs.Bytes.{word_bytes}
+use Rattle.magnetar_hash.specs.Transcript as transcript
+use Rattle.magnetar_schedule.specs.Schedule.{numbered}
+use Rattle.magnetar_prover.proofs.SharedSteps.{high-table, shared-done}
+use Rattle.magnetar_prover.proofs.Slots.{part-is}
+use borrow.Author.Rules.{rules}
+use lib.ListN.{length}
+use mathlib.Core.List.{List}
+use mathlib.Core.Path.{◌∙◌, ap}
+use native.Mathlib.Omega.{arith}
+use Rattle.magnetar_prover.proofs.shared.shared_round.Goals as goal
+
+pub send_messages-requires : goal.send_messages-requires
+send_messages-requires c = let p = c.requires in record {
+      s_len = (
+    p.0.0,
+    p.0.1,
+    p.0.2,
+    p.0.3,
+    p.0.4,
+    p.0.5,
+    p.0.6,
+  );
+      table = (high-table p.1.0, high-table p.1.1);
+    }
+
+pub overflow_mul-a : goal.overflow_mul-a
+overflow_mul-a c = omega (arith, c.requires.s_len.5)
+
+pub overflow_add-e : goal.overflow_add-e
+overflow_add-e c = omega (arith, c.requires.s_len.5)
+
+pub offset_bounds-proof-a : goal.offset_bounds-proof-a
+offset_bounds-proof-a c = omega (arith, c.requires.s_len.5)
+
+pub slice_bounds-shared_round-end : goal.slice_bounds-shared_round-end
+slice_bounds-shared_round-end c = omega (
+  arith,
+  c.requires.s_len.6,
+  c.send_messages.auto.proof,
+)
+
+pub end_both-requires : goal.end_both-requires
+end_both-requires c = let p = c.requires in record {
+      s_len = (
+    c.send_messages.auto.s ∙ p.0.0,
+    p.0.1,
+    p.0.2,
+    p.0.3,
+    p.0.4,
+    p.0.7,
+  );
+      table = (
+    high-table
+        p.1.0,
+    high-table p.1.1,
+  );
+    }
+
+pub returns : goal.returns
+returns c = let x = c.args in
+    let p = c.requires in
+    let ub = value c.get-ub.result in
+    let uf = value c.get-uf.result in
+    let p₁ = c.send_messages.new.proof in
+    let s₁ = c.send_messages.new.s in
+    let u = c.shared_round-u.result in
+    let g = c.send_messages.ensures in
+    let h = c.end_both.ensures in
+    let l : x.at.d ≤ length (elements x.draws.now) = rw elements-length (omega (arith, p.0.7)) in
+    let transcript-is = c.shared_round-u.ensures ∙ ap (λ (w : List ℕ). transcript.drawn
+    (transcript.absorbed x.t (numbered "vs-out-shared-" x.i) (word_bytes w)) (numbered "vs-out-shared-" x.i)) (part-is p₁ (2 * x.at.p)
+    16 ∙ g.there) in
+    rw h.transcript
+    (shared-done x.i x.h x.b x.f x.at.o x.at.q x.at.p x.at.d (value x.kb) (value c.end_both.result.kb) (value x.kf) (value c.end_both.result.kf) ub uf x.wb x.nb x.wf x.nf x.t u x.proof.now p₁ x.draws.now c.end_both.new.draws
+    x.s.now s₁ c.end_both.new.s
+    p.1.0 p.1.1 p.0.3 p.0.4 l c.get-ub.ensures c.get-uf.ensures transcript-is g.sent h.drawn h.kb h.kf g.bin g.fld h.bin h.fld)

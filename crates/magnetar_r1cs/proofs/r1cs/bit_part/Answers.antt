@@ -1,0 +1,9 @@
+use native.Mathlib.Omega.{arith}
+use Rattle.magnetar_matrix.proofs.Carried.{kept-words}
+use borrow.Author.Rules.{rules}
+use Rattle.magnetar_r1cs.proofs.r1cs.bit_part.Goals as goal
+
+pub returns : goal.returns
+returns c =
+    let s = c in
+    kept-words _ s.args.out.now _ s.requires.out_len (search rules) c.add_bits.ensures (λ i. omega (arith, c.slice_known-2-1.given i))

@@ -1,0 +1,32 @@
+use mathlib.Core.Path.{◌≡◌, refl, ◌∙◌}
+use native.Mathlib.Omega.{arith}
+use Prim.Native.Nat.{◌-◌, ◌*◌, ◌≤◌}
+use lib.ListN.{length}
+use Rattle.magnetar_matrix.specs.Matrix.{share}
+use Rattle.magnetar_matrix.proofs.Blocks.{product-fits}
+use Rattle.magnetar_records.specs.Records.{entry_of}
+use Rattle.magnetar_relation.specs.Steps.{login_z}
+use Rattle.magnetar_records.specs.LoginSteps.{added_blocks}
+use Rattle.magnetar_records.proofs.LoginLaws.{blocks-none, blocks-one}
+use borrow.Author.Rules.{rules}
+use Rattle.magnetar_records.proofs.logins.each_login.Goals as goal
+
+pub overflow_mul-k : goal.overflow_mul-k
+overflow_mul-k c =
+    let s = c in
+    omega (arith, product-fits s.args.q s.args.n s.requires.0 (omega (arith, s.requires.2)))
+
+pub loop-u-init : goal.loop-u-init
+loop-u-init c = (refl, refl, omega arith, blocks-none _ _ _ _ _)
+
+pub loop-u-preserved : goal.loop-u-preserved
+loop-u-preserved c =
+    let l = c.loop-u in
+    (search rules, l.invariant.1, omega arith, c.add_login.ensures ∙ blocks-one _ _ _ _ _ _ _ _ l.invariant.1 l.invariant.3)
+
+pub returns : goal.returns
+returns c =
+    let last : c.loop-u.u ≡ c.args.q =
+        let h = c.loop-u.invariant.2 in omega (arith, h) in
+    let l = c.loop-u in
+    l.invariant.3 ∙ rw (last)

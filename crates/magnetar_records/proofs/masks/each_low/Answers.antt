@@ -1,0 +1,34 @@
+use mathlib.Core.Path.{◌≡◌, refl, ◌∙◌}
+use native.Mathlib.Omega.{arith}
+use Prim.Native.Nat.{◌-◌, ◌≤◌}
+use lib.ListN.{length}
+use Rattle.magnetar_matrix.proofs.Blocks.{product-fits}
+use Rattle.magnetar_records.specs.Records.{entry_of}
+use Rattle.magnetar_records.specs.MaskSteps.{flips, flipped}
+use Rattle.magnetar_records.proofs.MaskLaws.{flipped-none, flipped-one}
+use borrow.Author.Rules.{rules}
+use Rattle.magnetar_records.proofs.masks.each_low.Goals as goal
+
+pub loop-low-init : goal.loop-low-init
+loop-low-init c = (refl, omega arith, flipped-none _ _ _ _)
+
+pub overflow_mul-at : goal.overflow_mul-at
+overflow_mul-at c =
+    let s = c in
+    omega (arith, product-fits c.loop-low.low s.args.n (omega (arith, s.requires.0)) (omega (arith, s.requires.2)))
+
+pub overflow_add-at : goal.overflow_add-at
+overflow_add-at c =
+    let s = c in
+    omega (arith, product-fits c.loop-low.low s.args.n (omega (arith, s.requires.0)) (omega (arith, s.requires.2)), s.requires.2, s.requires.3)
+
+pub loop-low-preserved : goal.loop-low-preserved
+loop-low-preserved c =
+    let l = c.loop-low in
+    (search rules, omega arith, c.add_word.ensures ∙ rw c.mask_of.ensures (flipped-one _ _ _ _ _ _ l.invariant.2))
+
+pub returns : goal.returns
+returns c =
+    let last : c.loop-low.low ≡ c.args.d =
+        let h = c.loop-low.invariant.1 in omega (arith, h) in
+    c.loop-low.invariant.2 ∙ rw (last)

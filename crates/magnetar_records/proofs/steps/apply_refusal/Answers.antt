@@ -1,0 +1,30 @@
+use mathlib.Core.Path.{refl, sym, ◌∙◌}
+use native.Mathlib.Omega.{arith}
+use Rattle.magnetar_layout.proofs.FirstRefusal.{first-refusal-front, first-refusal-late, first-refusal-clear}
+use Rattle.magnetar_layout.proofs.SizeLaws.{not-bad}
+use Rattle.magnetar_records.specs.Steps.{lone_of, apply_tests}
+use borrow.Author.Rules.{rules}
+use Rattle.magnetar_records.proofs.steps.apply_refusal.Goals as goal
+
+pub returns-then-n-ne0 : goal.returns-then-n-ne0
+returns-then-n-ne0 c =
+    let x = c.args in
+    first-refusal-front (lone_of x.rows x.cols x.n x.inside) (apply_tests x.rows x.cols x.z x.out) _ c.lone-n.ensures c.if-n-ne0.true
+
+pub overflow_mul-cols : goal.overflow_mul-cols
+overflow_mul-cols c =
+    let x = c.args in
+    let k = (first-refusal-clear 0 (lone_of x.rows x.cols x.n x.inside) refl (sym c.lone-n.ensures ∙ c.if-n-ne0.false)).1 in
+    omega (arith, (not-bad k.0).high)
+
+pub overflow_mul-rows : goal.overflow_mul-rows
+overflow_mul-rows c =
+    let x = c.args in
+    let k = (first-refusal-clear 0 (lone_of x.rows x.cols x.n x.inside) refl (sym c.lone-n.ensures ∙ c.if-n-ne0.false)).1 in
+    omega (arith, (not-bad k.1.0).high)
+
+pub returns : goal.returns
+returns c =
+    let x = c.args in
+    first-refusal-late (lone_of x.rows x.cols x.n x.inside) (apply_tests x.rows x.cols x.z x.out) _ _
+    c.lone-n.ensures c.if-n-ne0.false (rw (c.refuse.ensures, c.refuse-n.ensures))

@@ -1,0 +1,8 @@
+use borrow.Author.Rules.{rules}
+use Rattle.magnetar_relation.proofs.rules.numbers.Reads as reads
+use Rattle.magnetar_relation.proofs.rules.numbers.Lts as lts
+use Rattle.magnetar_layout.proofs.tests.refuse.Reads as refuse-reads
+use Rattle.magnetar_relation.proofs.rules.numbers.Goals as goal
+
+pub returns : goal.returns
+returns c = rw (c.refuse.ensures, c.refuse-z-3.ensures, c.refuse-z-2.ensures, c.refuse-z.ensures)

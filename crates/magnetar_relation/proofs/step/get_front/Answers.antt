@@ -1,0 +1,19 @@
+use mathlib.Core.Path.{sym, ◌∙◌}
+use native.Mathlib.Omega.{arith}
+use lib.Seq.{length-take-le}
+use Rattle.magnetar_relation.specs.Steps.{front}
+use Rattle.magnetar_relation.proofs.StepLaws.{front-all}
+use borrow.Author.Rules.{rules}
+use Rattle.magnetar_relation.proofs.step.get_front.Goals as goal
+
+pub slice_bounds-get-end : goal.slice_bounds-get-end
+slice_bounds-get-end c = sym (length-take-le _ _ (omega arith))
+
+pub returns-then-n-s : goal.returns-then-n-s
+unfolding front
+returns-then-n-s c = c.get.ensures
+
+pub returns : goal.returns
+returns c =
+    let x = c.args in
+    c.get-2.ensures ∙ front-all x.n x.k x.s.now (omega arith)

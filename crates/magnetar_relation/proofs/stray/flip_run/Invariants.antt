@@ -1,0 +1,14 @@
+use mathlib.Core.Path.{◌≡◌, refl}
+use Prim.Native.Nat.{◌+◌, ◌-◌, ◌≤◌, ◌<◌}
+use native.Mathlib.Omega.{arith}
+use lib.ListN.{length}
+use Rattle.magnetar_relation.specs.Stray.{Flipped}
+use Rattle.magnetar_relation.proofs.MaskLaws.{Left, left-start, left-next, left-fits, flip-none, flip-more}
+use borrow.Author.Rules.{rules}
+use Rattle.magnetar_relation.proofs.stray.flip_run.Given as goal
+
+abbrev pub invariant-loop-y : goal.invariant-loop-y
+invariant-loop-y l = (length l.mask ≡ length l.initial.mask) × (l.o ≤ l.y) × (l.y ≤ l.o + l.n) × Left l.y (l.o + l.n - l.y) l.t × Flipped l.o (l.y - l.o) l.initial.mask l.mask
+
+abbrev pub decreases-loop-y : goal.decreases-loop-y
+decreases-loop-y l = l.o + l.n - l.y

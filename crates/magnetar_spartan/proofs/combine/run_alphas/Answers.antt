@@ -1,0 +1,15 @@
+use mathlib.Core.Path.{ap, ◌∙◌}
+use Prim.Native.Nat.{ℕ}
+use Rattle.magnetar_spartan.specs.Table.{window}
+use Rattle.magnetar_spartan.proofs.StageLaws.{window-is}
+use borrow.Author.Rules.{rules}
+use Rattle.magnetar_spartan.proofs.combine.run_alphas.Goals as goal
+
+pub returns : goal.returns
+returns c =
+    let w = c.copy in
+    let a = c in
+    let k = c in
+    let x = k.args in
+    window-is 12 k.alphas_at-k.result a.least-a.result x.d _ a.least-a.ensures.0 w.ensures
+    ∙ ap (λ (i : ℕ). window 12 i x.d) k.alphas_at-k.ensures.0

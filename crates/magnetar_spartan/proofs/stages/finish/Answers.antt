@@ -1,0 +1,25 @@
+use native.Mathlib.Omega.{arith}
+use Rattle.magnetar_field.specs.Gf128.{value}
+use Rattle.magnetar_matrix.specs.Batch.{Relation}
+use Rattle.magnetar_protocol.specs.Shape.{sizes_only}
+use Rattle.magnetar_spartan.proofs.StageLaws.{finish-is, finish-back}
+use borrow.Author.Rules.{rules}
+use Rattle.magnetar_spartan.proofs.stages.finish.Goals as goal
+
+pub returns-then-n-ne0 : goal.returns-then-n-ne0
+returns-then-n-ne0 c =
+    let o : Relation =
+        let x = c.args in sizes_only x.m x.q x.rb x.rf x.lens.now in
+    let s = c in
+    let x = s.args in
+    (finish-back x.n (o) x.proof.now x.t x.g (value x.v) (value x.p) x.claims.now c.if-n-ne0.true, λ j. omega (arith, c.shared_slice_known-2-1.given j))
+
+pub returns : goal.returns
+returns c =
+    let o : Relation =
+        let x = c.args in sizes_only x.m x.q x.rb x.rf x.lens.now in
+    let a = c in
+    let i = c in
+    let s = c in
+    let x = s.args in
+    (finish-is x.n (o) x.proof.now x.t x.g (value x.v) (value x.p) x.claims.now _ _ i.if-n-ne0.false a.checks.ensures, λ j. omega (arith, i.shared_slice_known-2-1.given j))

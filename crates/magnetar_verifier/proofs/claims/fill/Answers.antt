@@ -1,0 +1,35 @@
+use mathlib.Core.Path.{◌≡◌, refl, ap, ◌∙◌}
+use mathlib.Core.List.{append-nil}
+use Prim.Native.Nat.{◌-◌, ◌≤◌}
+use native.Mathlib.Omega.{arith}
+use lib.ListN.{length, drop_of_length-le}
+use Rattle.magnetar_field.specs.Gf128.{value}
+use Rattle.magnetar_field.specs.Words.{elements}
+use Rattle.magnetar_field.proofs.Elements.{elements-length, elements-stored}
+use Rattle.magnetar_field.proofs.Making.{Made, made_none, made_more}
+use Rattle.magnetar_verifier.specs.ClaimSteps.{claim_at}
+use borrow.Author.Rules.{rules}
+use Rattle.magnetar_verifier.proofs.claims.fill.Goals as goal
+
+pub loop-i-init : goal.loop-i-init
+loop-i-init c = (search rules, refl, made_none _ _)
+
+pub loop-i-preserved : goal.loop-i-preserved
+loop-i-preserved c =
+    let p = c in
+    let l = p.loop-i in
+    let x = p.args in (
+      search rules,
+      search rules,
+      rw (ap elements p.put.ensures ∙ elements-stored l.out l.i (value p.claim.result))
+          (made_more (claim_at x.s x.n x.k x.j x.v (elements x.proof.now) (elements x.draws.now)) (elements x.out.now)
+          (elements l.out) l.i (value p.claim.result) l.invariant.2 (rw elements-length (omega arith)) p.claim.ensures),
+    )
+
+pub returns : goal.returns
+returns c =
+    let l = c.loop-i in
+    let x = c.args in
+    let e : l.i ≡ x.count = omega arith in
+    let h : length (elements x.out.now) ≤ x.count = rw elements-length (omega arith) in
+    rw (l.invariant.2.list, e, drop_of_length-le (elements x.out.now) {i = x.count} h, append-nil)

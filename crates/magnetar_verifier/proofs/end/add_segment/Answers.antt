@@ -1,0 +1,20 @@
+use mathlib.Core.Path.{refl, ◌∙◌}
+use Prim.Native.Nat.{◌*◌}
+use native.Mathlib.Omega.{arith}
+use Rattle.magnetar_verifier.proofs.EqNumbers.{behind}
+use borrow.Author.Rules.{rules}
+use Rattle.magnetar_verifier.proofs.end.add_segment.Goals as goal
+
+pub overflow_mul-a : goal.overflow_mul-a
+overflow_mul-a c = omega (arith, c.log2-a.ensures.0)
+
+pub returns : goal.returns
+returns c =
+    let l = c in
+    let x = l.args in
+    c.add.ensures ∙ rw (
+      c.mul.ensures,
+      c.eq_number-e.ensures,
+      behind (2 * l.log2-a.result) l.log2-a.result x.low.now refl,
+      l.log2-a.ensures.0,
+    )

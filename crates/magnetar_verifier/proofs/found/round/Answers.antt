@@ -1,0 +1,15 @@
+use mathlib.Core.Path.{ap, sym, ◌∙◌}
+use Rattle.magnetar_field.specs.Gf128.{value}
+use Rattle.magnetar_sumcheck_verifier.specs.Outcome.{RoundLeft}
+use Rattle.magnetar_sumcheck_verifier.proofs.Wanted.{check-sized}
+use borrow.Author.Rules.{rules}
+use Rattle.magnetar_verifier.proofs.found.round.Goals as goal
+
+pub returns : goal.returns
+returns c =
+    let s = c in
+    let x = s.args in
+    let e = c.check_round-next.ensures ∙ sym (check-sized x.n x.msg.now (value x.claim) (value x.r) s.requires) in record {
+      found = c.refuse-g.ensures ∙ rw (ap (λ (o : RoundLeft). o.holds) e);
+      claim = ap (λ (o : RoundLeft). o.claim) e;
+    }
