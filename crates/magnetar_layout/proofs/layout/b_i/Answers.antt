@@ -10,12 +10,12 @@ returns-then-z-ne0 c = read-refused _ _ _ _ _ c.refusal-z.ensures c.if-z-ne0.tru
 
 pub place-requires : goal.place-requires
 place-requires c = record {
-      layout_fits = sound _ _ (sym c.refusal-z.ensures ∙ c.if-z-ne0.false);
-      k_in_bounds = c.if-i-lens.true;
-    }
+  layout_fits = sound _ _ (sym c.refusal-z.ensures ∙ c.if-z-ne0.false);
+  k_in_bounds = c.if-i-lens.true;
+}
 
-pub nonzero_div-t11 : goal.nonzero_div-t11
-nonzero_div-t11 c =
+pub nonzero_div-result : goal.nonzero_div-result
+nonzero_div-result c =
     let s = c in
     let o = sound _ _ (sym c.refusal-z.ensures ∙ c.if-z-ne0.false) in
     (each-size _ _ s.args.i o.lengths (omega arith)).least

@@ -10,9 +10,9 @@ returns-then-z-ne0 c = read-refused _ _ _ _ _ c.refusal-z.ensures c.if-z-ne0.tru
 
 pub place-requires : goal.place-requires
 place-requires c = record {
-      layout_fits = sound _ _ (sym c.refusal-z.ensures ∙ c.if-z-ne0.false);
-      k_in_bounds = c.if-i-lens.true;
-    }
+  layout_fits = sound _ _ (sym c.refusal-z.ensures ∙ c.if-z-ne0.false);
+  k_in_bounds = c.if-i-lens.true;
+}
 
 pub returns-then-i-lens : goal.returns-then-i-lens
 returns-then-i-lens c = read_some _ _ _ _ _ c.refusal-z.ensures c.if-z-ne0.false _ c.if-i-lens.true c.place.ensures

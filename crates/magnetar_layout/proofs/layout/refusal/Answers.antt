@@ -19,13 +19,13 @@ pub returns-then-z-ne0 : goal.returns-then-z-ne0
 unfolding layout_refusal
 returns-then-z-ne0 c =
     let front : Tests =
-        (1, not (is_size 2 65536 (2 * c.args.w))) ∷ (8, not (every (is_length c.args.w) c.args.lens.now)) ∷ [] in
+    (1, not (is_size 2 65536 (2 * c.args.w))) ∷ (8, not (every (is_length c.args.w) c.args.lens.now)) ∷ [] in
     let s = c in let h = half-size s.args.w in first-refusal-front (front) (drop 1 (layout_tests s.args.w s.args.lens.now)) _ (cc) c.if-z-ne0.true
 
 pub ends_past-requires : goal.ends_past-requires
 ends_past-requires c =
     let front : Tests =
-        (1, not (is_size 2 65536 (2 * c.args.w))) ∷ (8, not (every (is_length c.args.w) c.args.lens.now)) ∷ [] in
+    (1, not (is_size 2 65536 (2 * c.args.w))) ∷ (8, not (every (is_length c.args.w) c.args.lens.now)) ∷ [] in
     let s = c in
     let h = half-size s.args.w in
     let e : first_refusal 0 (front) ≡ 0 = cc in

@@ -18,43 +18,43 @@ returns-then-folded-w c = part-other _ _ _ _ _ c.refusal-z.ensures c.if-z-ne0.fa
 
 pub place-a-requires : goal.place-a-requires
 place-a-requires c = record {
-      layout_fits = sound _ _ (sym c.refusal-z.ensures ∙ c.if-z-ne0.false);
-      k_in_bounds = c.if-i-lens.true;
-    }
+  layout_fits = sound _ _ (sym c.refusal-z.ensures ∙ c.if-z-ne0.false);
+  k_in_bounds = c.if-i-lens.true;
+}
 
 pub overflow_mul-a : goal.overflow_mul-a
 overflow_mul-a c =
     let inside : Inside c.place-a.result (get_or c.args.lens.now c.args.i 0) c.args.w =
-        let o = sound _ _ (sym c.refusal-z.ensures ∙ c.if-z-ne0.false) in
-        record { small = o.small; ends = rw c.place-a.ensures (offset-within _ _ _ o c.if-i-lens.true) } in
+    let o = sound _ _ (sym c.refusal-z.ensures ∙ c.if-z-ne0.false) in
+    record { small = o.small; ends = rw c.place-a.ensures (offset-within _ _ _ o c.if-i-lens.true) } in
     omega (arith, inside)
 
 pub overflow_mul-e : goal.overflow_mul-e
 overflow_mul-e c =
     let inside : Inside c.place-a.result (get_or c.args.lens.now c.args.i 0) c.args.w =
-        let o = sound _ _ (sym c.refusal-z.ensures ∙ c.if-z-ne0.false) in
-        record { small = o.small; ends = rw c.place-a.ensures (offset-within _ _ _ o c.if-i-lens.true) } in
+    let o = sound _ _ (sym c.refusal-z.ensures ∙ c.if-z-ne0.false) in
+    record { small = o.small; ends = rw c.place-a.ensures (offset-within _ _ _ o c.if-i-lens.true) } in
     omega (arith, inside)
 
 pub overflow_add-e : goal.overflow_add-e
 overflow_add-e c =
     let inside : Inside c.place-a.result (get_or c.args.lens.now c.args.i 0) c.args.w =
-        let o = sound _ _ (sym c.refusal-z.ensures ∙ c.if-z-ne0.false) in
-        record { small = o.small; ends = rw c.place-a.ensures (offset-within _ _ _ o c.if-i-lens.true) } in
+    let o = sound _ _ (sym c.refusal-z.ensures ∙ c.if-z-ne0.false) in
+    record { small = o.small; ends = rw c.place-a.ensures (offset-within _ _ _ o c.if-i-lens.true) } in
     omega (arith, inside)
 
 pub offset_bounds-folded-a : goal.offset_bounds-folded-a
 offset_bounds-folded-a c =
     let inside : Inside c.place-a.result (get_or c.args.lens.now c.args.i 0) c.args.w =
-        let o = sound _ _ (sym c.refusal-z.ensures ∙ c.if-z-ne0.false) in
-        record { small = o.small; ends = rw c.place-a.ensures (offset-within _ _ _ o c.if-i-lens.true) } in
+    let o = sound _ _ (sym c.refusal-z.ensures ∙ c.if-z-ne0.false) in
+    record { small = o.small; ends = rw c.place-a.ensures (offset-within _ _ _ o c.if-i-lens.true) } in
     omega (arith, inside)
 
-pub slice_bounds-result-end : goal.slice_bounds-result-end
-slice_bounds-result-end c =
+pub slice_bounds-result-end-then-i-lens : goal.slice_bounds-result-end-then-i-lens
+slice_bounds-result-end-then-i-lens c =
     let inside : Inside c.place-a.result (get_or c.args.lens.now c.args.i 0) c.args.w =
-        let o = sound _ _ (sym c.refusal-z.ensures ∙ c.if-z-ne0.false) in
-        record { small = o.small; ends = rw c.place-a.ensures (offset-within _ _ _ o c.if-i-lens.true) } in
+    let o = sound _ _ (sym c.refusal-z.ensures ∙ c.if-z-ne0.false) in
+    record { small = o.small; ends = rw c.place-a.ensures (offset-within _ _ _ o c.if-i-lens.true) } in
     omega (arith, inside)
 
 pub returns-then-i-lens : goal.returns-then-i-lens
