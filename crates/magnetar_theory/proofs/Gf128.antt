@@ -99,9 +99,9 @@ number-eval (c ∷ p) r =
     number-sum c (element_product r (eval gf128 p r)) ∙ ap (λ (n : ℕ). number c ⊕ n) (number-product r (eval gf128 p r)
     ∙ ap (λ (n : ℕ). number r ⊗ n) (number-eval p r))
 
-element-mem : {l : List ℕ} (n : ℕ) → Memᴰ n l → Memᴰ (element n) (map element l)
-element-mem n (Memᴰ.head q) = Memᴰ.head (ap element q)
-element-mem n (Memᴰ.tail m) = Memᴰ.tail (element-mem n m)
+element-mem : (n : ℕ) {l : List ℕ} → Memᴰ n l → Memᴰ (element n) (map element l)
+element-mem n {l = l} (Memᴰ.head q) = Memᴰ.head (ap element q)
+element-mem n {l = m ∷ l} (Memᴰ.tail h) = Memᴰ.tail (element-mem n {l = l} h)
 
 all-zero : (p : List Element) → AllZero (map number p) → all_zero gf128 p ≡ true
 unfolding same

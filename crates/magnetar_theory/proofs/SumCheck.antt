@@ -90,6 +90,8 @@ module _ (F : Field) (L : Laws F) where
     pub sound : (ms : List (List K)) (rs : List K) (c : K) (S : St) → Checks F c ms rs → running F c ms rs ≡ value (bind_all F G rs S)
         → (c ≡ value S) ⊎ BadChallenge F G S ms rs
     sound [] [] c S h e = inl e
+    sound [] (r ∷ rs) c S h e = elim h [ ]
+    sound (m ∷ ms) [] c S h e = elim h [ ]
     sound (m ∷ ms) (r ∷ rs) c S h e = go (sound ms rs (eval F m r) (bind r S) h.1 e) (agree m (poly S))
       where
         go : (eval F m r ≡ value (bind r S)) ⊎ BadChallenge F G (bind r S) ms rs → ((x : K) → eval F m x ≡ eval F (poly S) x)

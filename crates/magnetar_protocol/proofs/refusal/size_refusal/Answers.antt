@@ -14,7 +14,7 @@ pub rows_refusal-z-requires : goal.rows_refusal-z-requires
 rows_refusal-z-requires c = let x = c.args in (logins-given x.m x.q _ c.login_refusal-z.ensures c.if-z-ne0.false).logins.high
 
 pub rows_refusal-requires : goal.rows_refusal-requires
-rows_refusal-requires c = rows-refusal-requires c.before tt
+rows_refusal-requires c = let x = c.args in (logins-given x.m x.q _ c.login_refusal-z.ensures c.if-z-ne0.false).logins.high
 
 pub returns : goal.returns
 returns c =
