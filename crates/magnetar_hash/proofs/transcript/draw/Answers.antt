@@ -9,7 +9,7 @@ unfolding drawn ascii
 returns c =
     let a = c.args in
     rw (
-      c.wrapping_add_u64.ensures,
+      c.wrapping_add_u64.ensures.value,
       c.finish-state.ensures,
       four-parts a.t.state (ascii "squeeze") a.label.now (le_bytes 8 a.t.squeeze_ctr) c.feed_head-a.ensures c.feed_word_part-b.ensures,
     )
