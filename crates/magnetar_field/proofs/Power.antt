@@ -1,6 +1,6 @@
 -- Powers: the laws of exponents, and the loop that squares and multiplies.
 -- Assumes nothing.
-use Rattle.std.proofs.Common.{◌≡◌, ℕ, zero, suc, ◌+◌, ◌-◌, ◌*◌, ◌/◌, ◌%◌, ◌^◌, ◌<◌, ◌≤◌, sym, refl, ap, ◌∙◌, ap₂, add-zero, add-suc, suc-mul, pow-suc, zero-mul, add-one, arith, lit<}
+use Rattle.std.proofs.Common.{◌≡◌, ℕ, zero, suc, ◌+◌, ◌*◌, ◌/◌, ◌%◌, ◌^◌, ◌<◌, ◌≤◌, sym, refl, ap, ◌∙◌, ap₂, add-zero, add-suc, suc-mul, pow-suc, zero-mul, add-one, arith, lit<}
 use lib.Arith.{lt-one}
 use Rattle.magnetar_field.specs.Gf128.{◌⊗◌, power}
 use Rattle.magnetar_field.proofs.Product.{⊗-assoc, ⊗-one, one-⊗, ⊗-lt}

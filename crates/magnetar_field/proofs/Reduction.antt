@@ -1,6 +1,6 @@
 -- The remainder of a polynomial of degree below 256, and times x^k in GF(2^128), as shifts of words.
 -- Assumes nothing.
-use Rattle.std.proofs.Common.{◌≡◌, ℕ, zero, suc, ◌+◌, ◌-◌, ◌*◌, ◌/◌, ◌%◌, ◌^◌, ◌<◌, ◌≤◌, sym, refl, ap, ◌∙◌, ap₂, lt_of_lt_of_le, add-zero, add_assoc, mod-lt, mod-eq_of_lt, mul_assoc, add-mul, suc-add, pow-suc, zero-add, zero-mul, mul-one, mul-div_cancel, arith, lit<, lit≤, pow_pos, pow_mono, pow-add, shl_lt, shr-shr, shr_lt}
+use Rattle.std.proofs.Common.{◌≡◌, ℕ, zero, suc, ◌+◌, ◌*◌, ◌/◌, ◌%◌, ◌^◌, ◌<◌, ◌≤◌, sym, refl, ap, ◌∙◌, ap₂, lt_of_lt_of_le, add-zero, add_assoc, mod-lt, mod-eq_of_lt, mul_assoc, add-mul, suc-add, pow-suc, zero-add, zero-mul, mul-one, mul-div_cancel, arith, lit<, lit≤, pow_pos, pow_mono, pow-add, shl_lt, shr-shr, shr_lt}
 use native.Mathlib.Nat.{mul-mod_left, div-div-eq-div-mul}
 use lib.Arith.{lt-one, digits_lt}
 use lib.Pow.{high, low, mod-pow-add}

@@ -1,6 +1,6 @@
 -- Shifts of numbers that several words make, the lowest word first: what a word loses at its top, the next one gains.
 -- Assumes nothing.
-use Rattle.std.proofs.Common.{◌≡◌, ℕ, ◌+◌, ◌-◌, ◌*◌, ◌/◌, ◌%◌, ◌^◌, ◌<◌, sym, ap, ◌∙◌, ap₂, add-zero, mod-lt, mul_comm, add-mul, add_comm, div-add-mod', mul_right_comm, mul-div_cancel, arith, pow_pos, pow-add, shr_lt}
+use Rattle.std.proofs.Common.{◌≡◌, ℕ, ◌+◌, ◌*◌, ◌/◌, ◌%◌, ◌^◌, ◌<◌, sym, ap, ◌∙◌, ap₂, add-zero, mod-lt, mul_comm, add-mul, add_comm, div-add-mod', mul_right_comm, mul-div_cancel, arith, pow_pos, pow-add, shr_lt}
 use native.Mathlib.Nat.{mul-mod_left, div-div-eq-div-mul}
 use lib.Arith.{mod-mul}
 use lib.Bits.{bit_or, or_shifted}

@@ -1,6 +1,5 @@
-use Rattle.std.proofs.Common.{◌^◌, ◌<◌, ◌≤◌, ◌∙◌, arith, rules}
-use Rattle.magnetar_field.specs.Residue.{wide, pair_at, Multiples}
-use Rattle.magnetar_field.proofs.Comb.{append-word, wide-lt, multiples-self, Combed, combed-start, combed-room, combed-more, combed-end}
+use Rattle.std.proofs.Common.{◌<◌, ◌∙◌, arith, rules}
+use Rattle.magnetar_field.proofs.Comb.{append-word, wide-lt, multiples-self, combed-start, combed-room, combed-more, combed-end}
 use Rattle.magnetar_field.proofs.gf128.clmul128.Goals as goal
 
 pub loop-i-init : goal.loop-i-init

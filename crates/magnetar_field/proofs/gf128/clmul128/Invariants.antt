@@ -1,6 +1,6 @@
-use Rattle.std.proofs.Common.{◌^◌, ◌<◌, ◌≤◌, ◌∙◌, arith, rules}
+use Rattle.std.proofs.Common.{◌^◌, ◌<◌, ◌≤◌}
 use Rattle.magnetar_field.specs.Residue.{wide, pair_at, Multiples}
-use Rattle.magnetar_field.proofs.Comb.{append-word, wide-lt, multiples-self, Combed, combed-start, combed-room, combed-more, combed-end}
+use Rattle.magnetar_field.proofs.Comb.{Combed}
 use Rattle.magnetar_field.proofs.gf128.clmul128.Given as goal
 
 abbrev pub invariant-loop-i : goal.invariant-loop-i

@@ -1,4 +1,3 @@
-use Rattle.std.proofs.Common.{rules}
 use Rattle.magnetar_field.specs.Gf128.{inverse}
 use Rattle.magnetar_field.proofs.gf128.inv.Goals as goal
 

@@ -1,4 +1,4 @@
-use Rattle.std.proofs.Common.{◌∙◌, rules}
+use Rattle.std.proofs.Common.{◌∙◌}
 use Rattle.magnetar_field.proofs.gf128.mul.Goals as goal
 
 pub returns : goal.returns

@@ -1,6 +1,4 @@
-use Rattle.std.proofs.Common.{◌≡◌, ◌-◌, ◌*◌, ◌<◌, ◌≤◌, refl, arith, rules}
-use Rattle.magnetar_field.specs.Gf128.{value}
-use Rattle.magnetar_field.specs.Residue.{Multiples}
+use Rattle.std.proofs.Common.{◌≡◌, refl, arith, rules}
 use Rattle.magnetar_field.proofs.Comb.{append-word, multiples-start}
 use Rattle.magnetar_field.proofs.gf128.multiples_of.Goals as goal
 

@@ -1,7 +1,6 @@
-use Rattle.std.proofs.Common.{◌≡◌, ◌-◌, ◌*◌, ◌<◌, ◌≤◌, refl, arith, rules}
+use Rattle.std.proofs.Common.{◌-◌, ◌*◌, ◌<◌, ◌≤◌}
 use Rattle.magnetar_field.specs.Gf128.{value}
 use Rattle.magnetar_field.specs.Residue.{Multiples}
-use Rattle.magnetar_field.proofs.Comb.{append-word, multiples-start}
 use Rattle.magnetar_field.proofs.gf128.multiples_of.Given as goal
 
 abbrev pub invariant-loop-k : goal.invariant-loop-k

@@ -1,4 +1,4 @@
-use Rattle.std.proofs.Common.{◌∙◌, arith, rules}
+use Rattle.std.proofs.Common.{◌∙◌, arith}
 use Rattle.magnetar_field.proofs.Power.{power-bit-zero, power-bit-one}
 use Rattle.magnetar_field.proofs.gf128.pow_bit.Goals as goal
 

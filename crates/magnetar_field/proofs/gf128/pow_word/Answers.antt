@@ -1,7 +1,6 @@
-use Rattle.std.proofs.Common.{◌-◌, ◌^◌, ◌<◌, ◌≤◌, arith, rules}
-use Rattle.magnetar_field.specs.Gf128.{value}
+use Rattle.std.proofs.Common.{arith, rules}
 use Rattle.magnetar_field.proofs.Product.{⊗-lt}
-use Rattle.magnetar_field.proofs.Power.{Powering, powering-start, powering-more, powering-end, powering-base}
+use Rattle.magnetar_field.proofs.Power.{powering-start, powering-more, powering-end, powering-base}
 use Rattle.magnetar_field.proofs.gf128.pow_word.Goals as goal
 
 pub loop-i-init : goal.loop-i-init

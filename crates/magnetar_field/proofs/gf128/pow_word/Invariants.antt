@@ -1,7 +1,6 @@
-use Rattle.std.proofs.Common.{◌-◌, ◌^◌, ◌<◌, ◌≤◌, arith, rules}
+use Rattle.std.proofs.Common.{◌-◌, ◌^◌, ◌<◌, ◌≤◌}
 use Rattle.magnetar_field.specs.Gf128.{value}
-use Rattle.magnetar_field.proofs.Product.{⊗-lt}
-use Rattle.magnetar_field.proofs.Power.{Powering, powering-start, powering-more, powering-end, powering-base}
+use Rattle.magnetar_field.proofs.Power.{Powering}
 use Rattle.magnetar_field.proofs.gf128.pow_word.Given as goal
 
 abbrev pub invariant-loop-i : goal.invariant-loop-i

@@ -1,6 +1,5 @@
-use Rattle.std.proofs.Common.{◌≡◌, arith, rules}
-use Rattle.magnetar_field.specs.Sizes.{log₂}
-use Rattle.magnetar_field.proofs.Log2.{Halved, halved-start, halved-more, halved-end, log₂-lt}
+use Rattle.std.proofs.Common.{arith, rules}
+use Rattle.magnetar_field.proofs.Log2.{halved-start, halved-more, halved-end, log₂-lt}
 use Rattle.magnetar_field.proofs.sizes.log2.Goals as goal
 
 pub loop-rest-init : goal.loop-rest-init

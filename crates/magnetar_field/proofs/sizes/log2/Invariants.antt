@@ -1,6 +1,4 @@
-use Rattle.std.proofs.Common.{◌≡◌, arith, rules}
-use Rattle.magnetar_field.specs.Sizes.{log₂}
-use Rattle.magnetar_field.proofs.Log2.{Halved, halved-start, halved-more, halved-end, log₂-lt}
+use Rattle.magnetar_field.proofs.Log2.{Halved}
 use Rattle.magnetar_field.proofs.sizes.log2.Given as goal
 
 abbrev pub invariant-loop-rest : goal.invariant-loop-rest

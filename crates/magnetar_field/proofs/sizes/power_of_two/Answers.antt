@@ -1,4 +1,4 @@
-use Rattle.std.proofs.Common.{sym, one-mul, rules}
+use Rattle.std.proofs.Common.{sym, one-mul}
 use Rattle.magnetar_field.proofs.Log2.{power-past}
 use Rattle.magnetar_field.proofs.sizes.power_of_two.Goals as goal
 

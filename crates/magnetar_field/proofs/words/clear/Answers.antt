@@ -1,4 +1,4 @@
-use Rattle.std.proofs.Common.{◌≡◌, ◌-◌, ◌≤◌, ◌++◌, length, drop, replicate, refl, arith, rules}
+use Rattle.std.proofs.Common.{length, refl, arith, rules}
 use borrow.Author.Fill.{fill_more}
 use Rattle.magnetar_field.proofs.Elements.{fill-all}
 use Rattle.magnetar_field.proofs.words.clear.Goals as goal

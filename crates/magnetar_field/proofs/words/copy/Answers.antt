@@ -1,4 +1,4 @@
-use Rattle.std.proofs.Common.{◌≡◌, ◌-◌, ◌≤◌, min, ◌++◌, length, take, drop, refl, arith, rules}
+use Rattle.std.proofs.Common.{refl, arith, rules}
 use Rattle.magnetar_field.proofs.Elements.{copy_more, copy-all}
 use Rattle.magnetar_field.proofs.words.copy.Goals as goal
 

@@ -1,4 +1,4 @@
-use Rattle.std.proofs.Common.{sym, arith, rules}
+use Rattle.std.proofs.Common.{sym, arith}
 use Rattle.magnetar_field.proofs.Elements.{elements-get, elements-out}
 use Rattle.magnetar_field.proofs.words.get.Goals as goal
 

@@ -1,6 +1,5 @@
 use Rattle.magnetar_keccak.specs.State.{◌⊕◌}
 use Rattle.magnetar_keccak.specs.Keccak.{effect}
-use borrow.Author.Rules.{rules}
 use Rattle.magnetar_keccak.proofs.keccak.effect.Goals as goal
 
 pub returns : goal.returns

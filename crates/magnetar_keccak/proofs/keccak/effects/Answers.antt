@@ -1,5 +1,4 @@
 use Rattle.magnetar_field.specs.Tabulate.{tabulate}
-use borrow.Author.Rules.{rules}
 use Rattle.magnetar_keccak.proofs.keccak.effects.Goals as goal
 
 pub returns : goal.returns

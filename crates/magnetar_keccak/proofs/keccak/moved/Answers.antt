@@ -2,7 +2,6 @@ use mathlib.Core.Path.{◌∙◌}
 use native.Mathlib.Omega.{arith}
 use Rattle.magnetar_keccak.proofs.Lanes.{moved-from}
 use Rattle.magnetar_keccak.specs.State.{◌⊕◌}
-use borrow.Author.Rules.{rules}
 use Rattle.magnetar_keccak.proofs.keccak.moved.Goals as goal
 
 pub rotate_left-requires : goal.rotate_left-requires

@@ -1,7 +1,6 @@
 use native.Mathlib.Nat.{zero-add}
 use Rattle.magnetar_keccak.specs.State.{◌⊕◌}
 use Rattle.magnetar_keccak.specs.Keccak.{parity}
-use borrow.Author.Rules.{rules}
 use Rattle.magnetar_keccak.proofs.keccak.parity.Goals as goal
 
 pub returns : goal.returns

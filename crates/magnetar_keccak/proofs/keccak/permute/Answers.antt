@@ -1,7 +1,6 @@
 use mathlib.Core.Path.{◌≡◌, refl, ◌∙◌}
 use native.Mathlib.Omega.{arith}
 use native.Mathlib.Numerals.{add-one}
-use Prim.Native.Nat.{◌≤◌, ◌-◌}
 use Rattle.magnetar_keccak.specs.Keccak.{rounds, permuted}
 use borrow.Author.Rules.{rules}
 use Rattle.magnetar_keccak.proofs.keccak.permute.Goals as goal

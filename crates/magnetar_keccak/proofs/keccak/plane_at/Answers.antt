@@ -1,8 +1,6 @@
 use lib.Dec.{lit<}
 use Rattle.magnetar_keccak.specs.Keccak.{theta, rho, pi}
 use Rattle.magnetar_keccak.proofs.Lanes.{chi-from}
-use Rattle.magnetar_keccak.specs.Keccak.{chi}
-use borrow.Author.Rules.{rules}
 use Rattle.magnetar_keccak.proofs.keccak.plane_at.Goals as goal
 
 pub returns : goal.returns

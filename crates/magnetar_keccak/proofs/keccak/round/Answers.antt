@@ -4,10 +4,9 @@ use Rattle.magnetar_keccak.specs.Keccak.{round, iota}
 use Rattle.magnetar_keccak.specs.State.{◌⊕◌}
 use Rattle.magnetar_keccak.proofs.Lanes.{length-chi}
 use Rattle.magnetar_keccak.proofs.Planes.{written-plane}
-use Prim.Native.Nat.{◌≤◌, ◌-◌, ◌*◌}
-use Rattle.magnetar_keccak.specs.Keccak.{theta, rho, pi, chi}
-use Rattle.magnetar_keccak.specs.Planes.{Effects}
-use Rattle.magnetar_keccak.proofs.Written.{Written, written_none, written_all}
+use Prim.Native.Nat.{◌*◌}
+use Rattle.magnetar_keccak.specs.Keccak.{theta, rho, pi}
+use Rattle.magnetar_keccak.proofs.Written.{written_none, written_all}
 use borrow.Author.Rules.{rules}
 use Rattle.magnetar_keccak.proofs.keccak.round.Goals as goal
 
