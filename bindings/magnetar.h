@@ -1,4 +1,4 @@
-/* The proved library for C: link libmagnetar_c.a, which `rt staticlib magnetar_c` writes to target/staticlib.
+/* The proved library for C: link libmagnetar_c.a, which `rt lib` in crates/magnetar_c writes to crates/magnetar_c/out.
  *
  * What a caller must bind. Neither the prover nor the verifier absorbs the relation, the public elements or a commitment to the bits. So
  * before the run, at both ends and in the same order, absorb into the transcript
