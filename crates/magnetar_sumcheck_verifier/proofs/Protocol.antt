@@ -13,7 +13,7 @@ use lib.Pow.{pow_pos}
 use Rattle.magnetar_field.specs.Gf128.{◌⊕◌, ◌⊗◌}
 use Rattle.magnetar_field.specs.Polynomial.{eval}
 use Rattle.magnetar_multilinear.specs.EqTable.{eq_table}
-use Rattle.magnetar_multilinear.specs.Multilinear.{dot, mle}
+use Rattle.magnetar_multilinear.specs.Multilinear.{bind_var, dot, mle}
 use Rattle.magnetar_field.proofs.Polynomial.{AllBelow, eval-lt}
 use Rattle.magnetar_field.proofs.Product.{⊗-lt}
 use Rattle.magnetar_field.proofs.Xor.{⊕-lt, ⊕-self, eq-of-⊕}
@@ -118,7 +118,7 @@ inner_message-below v t z = (
 pub inner_below : (t z rs : List ℕ) → MessagesBelow (inner_messages t z rs)
 unfolding inner_messages
 inner_below t z [] = tt
-inner_below t z (r ∷ rs) = (inner_message-below 0 t z, inner_below _ _ rs)
+inner_below t z (r ∷ rs) = (inner_message-below 0 t z, inner_below (bind_var 0 r t) (bind_var 0 r z) rs)
 
 running-lt : (c : ℕ) (ms : List (List ℕ)) (rs : List ℕ) → c < 2 ^ 128 → MessagesBelow ms → running c ms rs < 2 ^ 128
 unfolding running

@@ -10,9 +10,9 @@ use Rattle.magnetar_sumcheck_prover.proofs.engine.inner_message.Goals as goal
 
 pub returns-then-r-ne0 : goal.returns-then-r-ne0
 returns-then-r-ne0 c = record {
-      refusal = c.inner_refusal-r.ensures;
-      message = rw (← c.inner_refusal-r.ensures, ne_eqb _ _ c.if-r-ne0.true);
-    }
+  refusal = c.inner_refusal-r.ensures;
+  message = rw (← c.inner_refusal-r.ensures, ne_eqb _ _ c.if-r-ne0.true);
+}
 
 pub inner_sums-s-requires : goal.inner_sums-s-requires
 inner_sums-s-requires c =

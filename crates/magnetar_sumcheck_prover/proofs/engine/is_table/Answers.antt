@@ -1,4 +1,3 @@
-use borrow.Author.Tests.{not-true, not-false}
 use Prim.Native.Nat.{◌%◌}
 use Rattle.magnetar_sumcheck_prover.specs.Entries.{is_table}
 use borrow.Author.Tests.{ne_eqb, eq-eqb}
@@ -14,8 +13,7 @@ unfolding is_table
 returns-then-not-is_power_of_two c = let x = c.args in rw (
   eq-eqb (x.words % 2) 0 c.if-words-ne0.false,
   ← c.is_power_of_two.ensures,
-  not-true
-      c.is_power_of_two.result c.if-not-is_power_of_two.true,
+  c.if-not-is_power_of_two.true,
 )
 
 pub returns : goal.returns
@@ -25,6 +23,5 @@ returns c = let x = c.args in rw (
       c.if-words-ne0.false,
   ← c.is_power_of_two.ensures,
   c.log2.ensures.0,
-  not-false
-      c.is_power_of_two.result c.if-not-is_power_of_two.false,
+  c.if-not-is_power_of_two.false,
 )

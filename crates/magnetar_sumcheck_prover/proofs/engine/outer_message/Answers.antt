@@ -11,9 +11,9 @@ use Rattle.magnetar_sumcheck_prover.proofs.engine.outer_message.Goals as goal
 
 pub returns-then-z-ne0 : goal.returns-then-z-ne0
 returns-then-z-ne0 c = record {
-      refusal = c.outer_refusal-z.ensures;
-      message = rw (← c.outer_refusal-z.ensures, ne_eqb _ _ c.if-z-ne0.true);
-    }
+  refusal = c.outer_refusal-z.ensures;
+  message = rw (← c.outer_refusal-z.ensures, ne_eqb _ _ c.if-z-ne0.true);
+}
 
 pub outer_sums-s-requires : goal.outer_sums-s-requires
 outer_sums-s-requires c =

@@ -9,6 +9,10 @@ use Rattle.magnetar_sumcheck_prover.specs.Sums.{sums, outer_sums}
 use borrow.Author.Rules.{rules}
 use Rattle.magnetar_sumcheck_prover.proofs.engine.outer_sums.Goals as goal
 
+pub loop-i-init : goal.loop-i-init
+unfolding sums outer_sums Outer.weighted Sum.sum_below
+loop-i-init c = search rules
+
 pub returns : goal.returns
 returns c = let x = c.args in at-end
     (outer_sums x.v (elements x.e.now) (elements x.a.now) (elements x.b.now) (elements x.c.now))

@@ -2,7 +2,6 @@ use mathlib.Core.Path.{sym, ◌∙◌}
 use Prim.Native.Nat.{◌<◌, ◌^◌}
 use native.Mathlib.Omega.{arith}
 use lib.ListN.{length}
-use borrow.Author.Tests.{not-true, not-false}
 use Rattle.magnetar_sumcheck_prover.specs.Entries.{drop_refusal}
 use Rattle.magnetar_sumcheck_prover.proofs.Refusals.{table-small}
 use Rattle.magnetar_sumcheck_prover.proofs.EqFactor.{drop-out}
@@ -11,15 +10,15 @@ use Rattle.magnetar_sumcheck_prover.proofs.public.drop_var.Goals as goal
 
 pub returns-then-not-is_table : goal.returns-then-not-is_table
 unfolding drop_refusal
-returns-then-not-is_table c = let e = sym c.is_table.ensures ∙ not-true c.is_table.result c.if-not-is_table.true in record {
-      refusal = rw e;
-      dropped = rw e;
-    }
+returns-then-not-is_table c = let e = sym c.is_table.ensures ∙ c.if-not-is_table.true in record {
+  refusal = rw e;
+  dropped = rw e;
+}
 
 pub drop_pairs-requires : goal.drop_pairs-requires
 drop_pairs-requires c = let x = c.args in let h : length x.table.now < 2 ^ 64 = omega arith in
     let s = table-small x.v (length x.table.now) h
-    (sym c.is_table.ensures ∙ not-false c.is_table.result c.if-not-is_table.false) in
+    (sym c.is_table.ensures ∙ c.if-not-is_table.false) in
     (s.0, omega (arith, s.1))
 
 pub returns : goal.returns
@@ -27,7 +26,7 @@ unfolding drop_refusal
 returns c = let x = c.args in let h : length
     x.table.now < 2 ^ 64 = omega arith in
     let e = sym c.is_table.ensures
-    ∙ not-false c.is_table.result c.if-not-is_table.false in
+    ∙ c.if-not-is_table.false in
     let s = table-small x.v (length x.table.now) h e in record {
       refusal = rw e;
       dropped = drop-out x.v x.table.now c.drop_pairs.new.t s.1 e c.drop_pairs.auto.t
