@@ -5,12 +5,4 @@ pub mod PackedEnds
 pub mod MaskLaws
 pub mod MaskEnds
 pub mod WalkLaws
-pub mod EachNNbool
-pub mod Eachbool
-pub mod EachNSM
-pub mod EachNNMM
-pub mod EachNNMGf128
-pub mod EachNbool
-pub mod EachSNNNNM
-pub mod EachVIbool
-pub mod EachNNSSNNNMI
+pub mod Walk

@@ -1,4 +1,4 @@
-// The transcript in place. In proofs/: steps of walks that lend a struct or a slice of structs, which crates above cite.
+// The transcript in place.
 #![tactic(auto)]
 
 pub mod transcript;

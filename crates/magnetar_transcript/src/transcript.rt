@@ -21,13 +21,15 @@ pub fn absorb_bytes(t: &mut Transcript, label: &[u8], bytes: &[u8]) -> u32
     ensures { (result ≡ (absorb_answer t.old label.now bytes.now).code)
         × (t.new ≡ (absorb_answer t.old label.now bytes.now).transcript) }
 {
+    let state = t.state;
     let u = Transcript {
-        state: t.state,
+        state,
         squeeze_ctr: t.squeeze_ctr,
     };
     let a = transcript::absorb_bytes(u, label, bytes);
     let n = a.transcript;
-    t.state = n.state;
+    let state = n.state;
+    t.state = state;
     t.squeeze_ctr = n.squeeze_ctr;
     a.code
 }
@@ -37,13 +39,15 @@ pub fn absorb_u64(t: &mut Transcript, label: &[u8], v: u64) -> u32
     ensures { (result ≡ (absorb_answer t.old label.now (le_bytes 8 v)).code)
         × (t.new ≡ (absorb_answer t.old label.now (le_bytes 8 v)).transcript) }
 {
+    let state = t.state;
     let u = Transcript {
-        state: t.state,
+        state,
         squeeze_ctr: t.squeeze_ctr,
     };
     let a = transcript::absorb_u64(u, label, v);
     let n = a.transcript;
-    t.state = n.state;
+    let state = n.state;
+    t.state = state;
     t.squeeze_ctr = n.squeeze_ctr;
     a.code
 }
@@ -53,13 +57,15 @@ pub fn absorb_digest(t: &mut Transcript, label: &[u8], d: &[u8; 32]) -> u32
     ensures { (result ≡ (absorb_answer t.old label.now d.now).code)
         × (t.new ≡ (absorb_answer t.old label.now d.now).transcript) }
 {
+    let state = t.state;
     let u = Transcript {
-        state: t.state,
+        state,
         squeeze_ctr: t.squeeze_ctr,
     };
     let a = transcript::absorb_digest(u, label, d);
     let n = a.transcript;
-    t.state = n.state;
+    let state = n.state;
+    t.state = state;
     t.squeeze_ctr = n.squeeze_ctr;
     a.code
 }
@@ -69,13 +75,15 @@ pub fn absorb_field(t: &mut Transcript, label: &[u8], words: &[u64]) -> u32
     ensures { (result ≡ (field_answer t.old label.now words.now).code)
         × (t.new ≡ (field_answer t.old label.now words.now).transcript) }
 {
+    let state = t.state;
     let u = Transcript {
-        state: t.state,
+        state,
         squeeze_ctr: t.squeeze_ctr,
     };
     let a = transcript::absorb_field(u, label, words);
     let n = a.transcript;
-    t.state = n.state;
+    let state = n.state;
+    t.state = state;
     t.squeeze_ctr = n.squeeze_ctr;
     a.code
 }
@@ -85,13 +93,15 @@ pub fn challenge_field(t: &mut Transcript, label: &[u8]) -> Drawn
     ensures { (result ≡ drawn_of (draw_answer t.old label.now))
         × (t.new ≡ (draw_answer t.old label.now).transcript) }
 {
+    let state = t.state;
     let u = Transcript {
-        state: t.state,
+        state,
         squeeze_ctr: t.squeeze_ctr,
     };
     let a = transcript::challenge_field(u, label);
     let n = a.transcript;
-    t.state = n.state;
+    let state = n.state;
+    t.state = state;
     t.squeeze_ctr = n.squeeze_ctr;
     Drawn {
         code: a.code,
@@ -105,13 +115,15 @@ pub fn challenge_field_vec(t: &mut Transcript, label: &[u8], n: usize, out: &mut
         × (t.new ≡ (draws_answer t.old label.now n (length out.old)).transcript)
         × (out.new ≡ draws_out t.old label.now n out.old) }
 {
+    let state = t.state;
     let u = Transcript {
-        state: t.state,
+        state,
         squeeze_ctr: t.squeeze_ctr,
     };
     let a = transcript::challenge_field_vec(u, label, n, out);
     let next = a.transcript;
-    t.state = next.state;
+    let state = next.state;
+    t.state = state;
     t.squeeze_ctr = next.squeeze_ctr;
     a.code
 }
