@@ -41,7 +41,7 @@ overflow_mul-a c =
     let below : let x = c.args in c.loop-t.t * x.d + x.low < x.q =
         let s = c in login-below c.loop-t.t s.args.d s.args.low s.args.n s.args.q c.loop-t-test.true s.requires.w_bound.4 s.requires.w_bound.3 in
     let words_of : let x = c.args in Part (length x.packed.now) c.login_words-k.result (c.loop-t.t * x.d + x.low) x.q =
-        let s = c in let l = c.loop-t in part-of s.args.w _ _ (l.t * s.args.d + s.args.low) _ s.requires.w_bound.1 l.inv.3 l.inv.2 s.requires.w_bound.5 (below) in
+        let s = c in let l = c.loop-t in part-of s.args.w _ _ (l.t * s.args.d + s.args.low) _ s.requires.w_bound.1 l.invariant.3 l.invariant.2 s.requires.w_bound.5 (below) in
     let p = words_of in omega (arith, p.ends, p.small)
 
 pub overflow_add-b : goal.overflow_add-b
@@ -49,7 +49,7 @@ overflow_add-b c =
     let below : let x = c.args in c.loop-t.t * x.d + x.low < x.q =
         let s = c in login-below c.loop-t.t s.args.d s.args.low s.args.n s.args.q c.loop-t-test.true s.requires.w_bound.4 s.requires.w_bound.3 in
     let words_of : let x = c.args in Part (length x.packed.now) c.login_words-k.result (c.loop-t.t * x.d + x.low) x.q =
-        let s = c in let l = c.loop-t in part-of s.args.w _ _ (l.t * s.args.d + s.args.low) _ s.requires.w_bound.1 l.inv.3 l.inv.2 s.requires.w_bound.5 (below) in
+        let s = c in let l = c.loop-t in part-of s.args.w _ _ (l.t * s.args.d + s.args.low) _ s.requires.w_bound.1 l.invariant.3 l.invariant.2 s.requires.w_bound.5 (below) in
     let p = words_of in omega (arith, p.ends, p.small)
 
 pub offset_bounds-packed-a : goal.offset_bounds-packed-a
@@ -57,7 +57,7 @@ offset_bounds-packed-a c =
     let below : let x = c.args in c.loop-t.t * x.d + x.low < x.q =
         let s = c in login-below c.loop-t.t s.args.d s.args.low s.args.n s.args.q c.loop-t-test.true s.requires.w_bound.4 s.requires.w_bound.3 in
     let words_of : let x = c.args in Part (length x.packed.now) c.login_words-k.result (c.loop-t.t * x.d + x.low) x.q =
-        let s = c in let l = c.loop-t in part-of s.args.w _ _ (l.t * s.args.d + s.args.low) _ s.requires.w_bound.1 l.inv.3 l.inv.2 s.requires.w_bound.5 (below) in
+        let s = c in let l = c.loop-t in part-of s.args.w _ _ (l.t * s.args.d + s.args.low) _ s.requires.w_bound.1 l.invariant.3 l.invariant.2 s.requires.w_bound.5 (below) in
     let p = words_of in omega (arith, p.ends, p.small)
 
 pub slice_bounds-add_flips-end : goal.slice_bounds-add_flips-end
@@ -65,7 +65,7 @@ slice_bounds-add_flips-end c =
     let below : let x = c.args in c.loop-t.t * x.d + x.low < x.q =
         let s = c in login-below c.loop-t.t s.args.d s.args.low s.args.n s.args.q c.loop-t-test.true s.requires.w_bound.4 s.requires.w_bound.3 in
     let words_of : let x = c.args in Part (length x.packed.now) c.login_words-k.result (c.loop-t.t * x.d + x.low) x.q =
-        let s = c in let l = c.loop-t in part-of s.args.w _ _ (l.t * s.args.d + s.args.low) _ s.requires.w_bound.1 l.inv.3 l.inv.2 s.requires.w_bound.5 (below) in
+        let s = c in let l = c.loop-t in part-of s.args.w _ _ (l.t * s.args.d + s.args.low) _ s.requires.w_bound.1 l.invariant.3 l.invariant.2 s.requires.w_bound.5 (below) in
     let p = words_of in omega (arith, p.ends, p.small)
 
 pub add_flips-requires : goal.add_flips-requires

@@ -20,10 +20,10 @@ use Rattle.magnetar_r1cs.proofs.Flipped.{Powers, powers-of, masks-in-front}
 use borrow.Author.Rules.{rules}
 use Rattle.magnetar_r1cs.proofs.r1cs.apply_simd_bit_masks.Goals as goal
 
-record Fits (s : goal.Start) : Type 0 where
-  bits : bit_valued s.args.w (matrix_of (mat)) ≡ true
-  most : s.args.v ≤ log₂ s.args.q
-  powers : Powers s.args.q s.args.v
+record Fits (m : Lent) (q w v : ℕ) : Type 0 where
+  bits : bit_valued w (matrix_of m) ≡ true
+  most : v ≤ log₂ q
+  powers : Powers q v
 
 pub returns-then-n-ne0 : goal.returns-then-n-ne0
 unfolding masks_refusal
@@ -83,7 +83,7 @@ overflow_sub-s c =
         rw (c.refuse-n-3.ensures, c.refuse-n-2.ensures, c.refuse-n.ensures, c.bit_valued.ensures, c.log2-s.ensures.0) in
     let ok : let s = c in Batched (mat) s.args.packed.now [] s.args.q s.args.w =
         masked _ _ _ _ (sym c.matrix_refusal-n.ensures ∙ c.if-n-ne0.false) in
-    let fits : Fits c.before.before.before.before.before.before.before.before.before.before.before.before.before.before =
+    let fits : Fits (mat) c.args.q c.args.w c.args.v =
         let s = c in
         let k = (first-refusal-clear 0 (second) refl (sym (late) ∙ c.if-n-ne0-2.false)).1 in
         let h = ltb-false _ _ k.1.0 in
@@ -101,7 +101,7 @@ overflow_mul-end c =
         rw (c.refuse-n-3.ensures, c.refuse-n-2.ensures, c.refuse-n.ensures, c.bit_valued.ensures, c.log2-s.ensures.0) in
     let ok : let s = c in Batched (mat) s.args.packed.now [] s.args.q s.args.w =
         masked _ _ _ _ (sym c.matrix_refusal-n.ensures ∙ c.if-n-ne0.false) in
-    let fits : Fits c.before.before.before.before.before.before.before.before.before.before.before.before.before.before =
+    let fits : Fits (mat) c.args.q c.args.w c.args.v =
         let s = c in
         let k = (first-refusal-clear 0 (second) refl (sym (late) ∙ c.if-n-ne0-2.false)).1 in
         let h = ltb-false _ _ k.1.0 in
@@ -135,7 +135,7 @@ returns-then-out-end c =
         rw (c.refuse-n-3.ensures, c.refuse-n-2.ensures, c.refuse-n.ensures, c.bit_valued.ensures, c.log2-s.ensures.0) in
     let ok : let s = c in Batched (mat) s.args.packed.now [] s.args.q s.args.w =
         masked _ _ _ _ (sym c.matrix_refusal-n.ensures ∙ c.if-n-ne0.false) in
-    let fits : Fits c.before.before.before.before.before.before.before.before.before.before.before.before.before.before =
+    let fits : Fits (mat) c.args.q c.args.w c.args.v =
         let s = c in
         let k = (first-refusal-clear 0 (second) refl (sym (late) ∙ c.if-n-ne0-2.false)).1 in
         let h = ltb-false _ _ k.1.0 in
@@ -166,7 +166,7 @@ mask_all-requires c =
         rw (c.refuse-n-3.ensures, c.refuse-n-2.ensures, c.refuse-n.ensures, c.bit_valued.ensures, c.log2-s.ensures.0) in
     let ok : let s = c in Batched (mat) s.args.packed.now [] s.args.q s.args.w =
         masked _ _ _ _ (sym c.matrix_refusal-n.ensures ∙ c.if-n-ne0.false) in
-    let fits : Fits c.before.before.before.before.before.before.before.before.before.before.before.before.before.before =
+    let fits : Fits (mat) c.args.q c.args.w c.args.v =
         let s = c in
         let k = (first-refusal-clear 0 (second) refl (sym (late) ∙ c.if-n-ne0-2.false)).1 in
         let h = ltb-false _ _ k.1.0 in
@@ -189,8 +189,7 @@ mask_all-requires c =
         o.logins.high,
         rw (high_is) (fits).powers.logins,
         all-logins,
-        low-most
-            p,
+        low-most,
         o.rows_size.high,
         o.packed,
         length-take-le _ _ (omega arith),
@@ -212,7 +211,7 @@ returns c =
         rw (c.refuse-n-3.ensures, c.refuse-n-2.ensures, c.refuse-n.ensures, c.bit_valued.ensures, c.log2-s.ensures.0) in
     let ok : let s = c in Batched (mat) s.args.packed.now [] s.args.q s.args.w =
         masked _ _ _ _ (sym c.matrix_refusal-n.ensures ∙ c.if-n-ne0.false) in
-    let fits : Fits c.before.before.before.before.before.before.before.before.before.before.before.before.before.before =
+    let fits : Fits (mat) c.args.q c.args.w c.args.v =
         let s = c in
         let k = (first-refusal-clear 0 (second) refl (sym (late) ∙ c.if-n-ne0-2.false)).1 in
         let h = ltb-false _ _ k.1.0 in
@@ -229,6 +228,5 @@ returns c =
     let t : mask_count (mat) x.q x.v ≤ length x.out.now = rw (← low-is) k.if-out-end.false in
     let e : ◌≡◌ {A = ℕ} 0 (first_refusal 0 (first ++ second ++ third)) = first-refusal-late (first) (second ++ third) _ _ c.matrix_refusal-n.ensures c.if-n-ne0.false (first-refusal-late (second) (third) _ _ (late) c.if-n-ne0-2.false
     (room-enough (mask_count (mat) x.q x.v) x.out.now t)) in
-    let g = masks-in let all = -front (mat) x.packed.now x.out.now _ x.q x.w x.v _ _ (low-is) (high_is) (fits).powers (fits).bits c.mask_all.ensures in
-    (e, g ∙ done _ _ e refl) in
-    record { answer = all.0; written = all.1 }
+    let g = masks-in-front (mat) x.packed.now x.out.now _ x.q x.w x.v _ _ (low-is) (high_is) (fits).powers (fits).bits c.mask_all.ensures in
+    record { answer = e; written = g ∙ done _ _ e refl }

@@ -2,8 +2,8 @@ use lib.ListN.{length-drop}
 use Rattle.magnetar_r1cs.proofs.Lone.{below_wider, inside, all-inside, sum-ext}
 use Rattle.magnetar_r1cs.proofs.Points.{point-size, cross-is}
 use mathlib.Core.Path.{◌≡◌, refl, sym, ◌∙◌}
-use mathlib.Core.List.{◌++◌}
-use Prim.Native.Nat.{◌+◌, ◌*◌, ◌≤◌}
+use mathlib.Core.List.{List, ◌++◌}
+use Prim.Native.Nat.{ℕ, ◌+◌, ◌*◌, ◌≤◌}
 use native.Mathlib.Omega.{arith}
 use lib.ListN.{length}
 use lib.Seq.{length-take-le}
@@ -19,10 +19,10 @@ use Rattle.magnetar_r1cs.specs.Entries.{at_refusal}
 use borrow.Author.Rules.{rules}
 use Rattle.magnetar_r1cs.proofs.r1cs.eval_mle_at.Goals as goal
 
-record Fits (s : goal.Start) : Type 0 where
-  row-point : length s.args.r.now ≡ 2 * log₂ s.args.rows
-  col-point : length s.args.c.now ≡ 2 * log₂ s.args.cols
-  scratch : 2 * (s.args.rows + s.args.cols) ≤ length s.args.scratch.now
+record Fits (rows cols : ℕ) (r c s : List ℕ) : Type 0 where
+  row-point : length r ≡ 2 * log₂ rows
+  col-point : length c ≡ 2 * log₂ cols
+  scratch : 2 * (rows + cols) ≤ length s
 
 pub returns-then-n-ne0 : goal.returns-then-n-ne0
 unfolding at_refusal
@@ -100,7 +100,7 @@ slice_bounds-sum_in-end c =
         let x = c.args in length_test (2 * log₂ x.rows) x.r.now ++ length_test (2 * log₂ x.cols) x.c.now ++ room_test (2 * (x.rows + x.cols)) x.scratch.now in
     let late : c.refuse-n-3.result ≡ first_refusal 0 (rest) =
         rw (c.refuse-n-3.ensures, c.refuse-n-2.ensures, c.log2-2.ensures.0, c.refuse-n.ensures, c.log2.ensures.0) in
-    let fits : Fits c.before.before.before.before.before.before.before.before.before.before.before.before.before.before.before =
+    let fits : Fits c.args.rows c.args.cols c.args.r.now c.args.c.now c.args.scratch.now =
         let k = (first-refusal-clear 0 (rest) refl (sym (late) ∙ c.if-n-ne0-2.false)).1 in
         record { row-point = eqb-true _ _ (not-false _ k.0); col-point = eqb-true _ _ (not-false _ k.1.0); scratch = ltb-false _ _ k.1.1.0 } in
     (fits).scratch
@@ -111,7 +111,7 @@ slice_bounds-sum_in-end-2 c =
         let x = c.args in length_test (2 * log₂ x.rows) x.r.now ++ length_test (2 * log₂ x.cols) x.c.now ++ room_test (2 * (x.rows + x.cols)) x.scratch.now in
     let late : c.refuse-n-3.result ≡ first_refusal 0 (rest) =
         rw (c.refuse-n-3.ensures, c.refuse-n-2.ensures, c.log2-2.ensures.0, c.refuse-n.ensures, c.log2.ensures.0) in
-    let fits : Fits c.before.before.before.before.before.before.before.before.before.before.before.before.before.before.before =
+    let fits : Fits c.args.rows c.args.cols c.args.r.now c.args.c.now c.args.scratch.now =
         let k = (first-refusal-clear 0 (rest) refl (sym (late) ∙ c.if-n-ne0-2.false)).1 in
         record { row-point = eqb-true _ _ (not-false _ k.0); col-point = eqb-true _ _ (not-false _ k.1.0); scratch = ltb-false _ _ k.1.1.0 } in
     sym (length-take-le _ _ (fits).scratch)
@@ -126,7 +126,7 @@ sum_in-requires c =
         rw (c.refuse-n-3.ensures, c.refuse-n-2.ensures, c.log2-2.ensures.0, c.refuse-n.ensures, c.log2.ensures.0) in
     let matrix-fits : Lone (mat) =
         lone _ (sym c.lone-n.ensures ∙ c.if-n-ne0.false) in
-    let fits : Fits c.before.before.before.before.before.before.before.before.before.before.before.before.before.before.before =
+    let fits : Fits c.args.rows c.args.cols c.args.r.now c.args.c.now c.args.scratch.now =
         let k = (first-refusal-clear 0 (rest) refl (sym (late) ∙ c.if-n-ne0-2.false)).1 in
         record { row-point = eqb-true _ _ (not-false _ k.0); col-point = eqb-true _ _ (not-false _ k.1.0); scratch = ltb-false _ _ k.1.1.0 } in
     let m = matrix-fits in
@@ -150,7 +150,7 @@ returns c =
         rw (c.refuse-n-3.ensures, c.refuse-n-2.ensures, c.log2-2.ensures.0, c.refuse-n.ensures, c.log2.ensures.0) in
     let matrix-fits : Lone (mat) =
         lone _ (sym c.lone-n.ensures ∙ c.if-n-ne0.false) in
-    let fits : Fits c.before.before.before.before.before.before.before.before.before.before.before.before.before.before.before =
+    let fits : Fits c.args.rows c.args.cols c.args.r.now c.args.c.now c.args.scratch.now =
         let k = (first-refusal-clear 0 (rest) refl (sym (late) ∙ c.if-n-ne0-2.false)).1 in
         record { row-point = eqb-true _ _ (not-false _ k.0); col-point = eqb-true _ _ (not-false _ k.1.0); scratch = ltb-false _ _ k.1.1.0 } in
     let s = c in

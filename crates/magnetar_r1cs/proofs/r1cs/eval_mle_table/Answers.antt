@@ -1,7 +1,7 @@
 use Rattle.magnetar_r1cs.proofs.Lone.{flipped}
 use mathlib.Core.Path.{◌≡◌, refl, sym, ◌∙◌}
-use mathlib.Core.List.{◌++◌}
-use Prim.Native.Nat.{◌+◌, ◌*◌, ◌≤◌}
+use mathlib.Core.List.{List, ◌++◌}
+use Prim.Native.Nat.{ℕ, ◌+◌, ◌*◌, ◌≤◌}
 use native.Mathlib.Omega.{arith}
 use lib.ListN.{length}
 use lib.Seq.{length-take-le}
@@ -19,10 +19,10 @@ use Rattle.magnetar_matrix.proofs.Walked.{entries-swapped}
 use borrow.Author.Rules.{rules}
 use Rattle.magnetar_r1cs.proofs.r1cs.eval_mle_table.Goals as goal
 
-record Fits (s : goal.Start) : Type 0 where
-  point : length s.args.point.now ≡ 2 * log₂ s.args.rows
-  out : 2 * s.args.cols ≤ length s.args.out.now
-  scratch : 2 * s.args.rows ≤ length s.args.scratch.now
+record Fits (rows cols : ℕ) (p o s : List ℕ) : Type 0 where
+  point : length p ≡ 2 * log₂ rows
+  out : 2 * cols ≤ length o
+  scratch : 2 * rows ≤ length s
 
 pub returns-then-n-ne0 : goal.returns-then-n-ne0
 unfolding table_refusal
@@ -99,7 +99,7 @@ slice_bounds-table_in-end c =
         let x = c.args in length_test (2 * log₂ x.rows) x.point.now ++ room_test (2 * x.cols) x.out.now ++ room_test (2 * x.rows) x.scratch.now in
     let late : c.refuse-n-3.result ≡ first_refusal 0 (rest) =
         rw (c.refuse-n-3.ensures, c.refuse-n-2.ensures, c.refuse-n.ensures, c.log2.ensures.0) in
-    let fits : Fits c.before.before.before.before.before.before.before.before.before.before.before.before.before.before =
+    let fits : Fits c.args.rows c.args.cols c.args.point.now c.args.out.now c.args.scratch.now =
         let k = (first-refusal-clear 0 (rest) refl (sym (late) ∙ c.if-n-ne0-2.false)).1 in
         record { point = eqb-true _ _ (not-false _ k.0); out = ltb-false _ _ k.1.0; scratch = ltb-false _ _ k.1.1.0 } in
     (fits).out
@@ -110,7 +110,7 @@ slice_bounds-table_in-end-2 c =
         let x = c.args in length_test (2 * log₂ x.rows) x.point.now ++ room_test (2 * x.cols) x.out.now ++ room_test (2 * x.rows) x.scratch.now in
     let late : c.refuse-n-3.result ≡ first_refusal 0 (rest) =
         rw (c.refuse-n-3.ensures, c.refuse-n-2.ensures, c.refuse-n.ensures, c.log2.ensures.0) in
-    let fits : Fits c.before.before.before.before.before.before.before.before.before.before.before.before.before.before =
+    let fits : Fits c.args.rows c.args.cols c.args.point.now c.args.out.now c.args.scratch.now =
         let k = (first-refusal-clear 0 (rest) refl (sym (late) ∙ c.if-n-ne0-2.false)).1 in
         record { point = eqb-true _ _ (not-false _ k.0); out = ltb-false _ _ k.1.0; scratch = ltb-false _ _ k.1.1.0 } in
     sym (length-take-le _ _ (fits).out)
@@ -121,7 +121,7 @@ slice_bounds-table_in-end-3 c =
         let x = c.args in length_test (2 * log₂ x.rows) x.point.now ++ room_test (2 * x.cols) x.out.now ++ room_test (2 * x.rows) x.scratch.now in
     let late : c.refuse-n-3.result ≡ first_refusal 0 (rest) =
         rw (c.refuse-n-3.ensures, c.refuse-n-2.ensures, c.refuse-n.ensures, c.log2.ensures.0) in
-    let fits : Fits c.before.before.before.before.before.before.before.before.before.before.before.before.before.before =
+    let fits : Fits c.args.rows c.args.cols c.args.point.now c.args.out.now c.args.scratch.now =
         let k = (first-refusal-clear 0 (rest) refl (sym (late) ∙ c.if-n-ne0-2.false)).1 in
         record { point = eqb-true _ _ (not-false _ k.0); out = ltb-false _ _ k.1.0; scratch = ltb-false _ _ k.1.1.0 } in
     (fits).scratch
@@ -132,7 +132,7 @@ slice_bounds-table_in-end-4 c =
         let x = c.args in length_test (2 * log₂ x.rows) x.point.now ++ room_test (2 * x.cols) x.out.now ++ room_test (2 * x.rows) x.scratch.now in
     let late : c.refuse-n-3.result ≡ first_refusal 0 (rest) =
         rw (c.refuse-n-3.ensures, c.refuse-n-2.ensures, c.refuse-n.ensures, c.log2.ensures.0) in
-    let fits : Fits c.before.before.before.before.before.before.before.before.before.before.before.before.before.before =
+    let fits : Fits c.args.rows c.args.cols c.args.point.now c.args.out.now c.args.scratch.now =
         let k = (first-refusal-clear 0 (rest) refl (sym (late) ∙ c.if-n-ne0-2.false)).1 in
         record { point = eqb-true _ _ (not-false _ k.0); out = ltb-false _ _ k.1.0; scratch = ltb-false _ _ k.1.1.0 } in
     sym (length-take-le _ _ (fits).scratch)
@@ -147,7 +147,7 @@ table_in-requires c =
         rw (c.refuse-n-3.ensures, c.refuse-n-2.ensures, c.refuse-n.ensures, c.log2.ensures.0) in
     let matrix-fits : Lone (mat) =
         lone _ (sym c.lone-n.ensures ∙ c.if-n-ne0.false) in
-    let fits : Fits c.before.before.before.before.before.before.before.before.before.before.before.before.before.before =
+    let fits : Fits c.args.rows c.args.cols c.args.point.now c.args.out.now c.args.scratch.now =
         let k = (first-refusal-clear 0 (rest) refl (sym (late) ∙ c.if-n-ne0-2.false)).1 in
         record { point = eqb-true _ _ (not-false _ k.0); out = ltb-false _ _ k.1.0; scratch = ltb-false _ _ k.1.1.0 } in
     let m = matrix-fits in
@@ -166,7 +166,7 @@ returns c =
         let x = c.args in length_test (2 * log₂ x.rows) x.point.now ++ room_test (2 * x.cols) x.out.now ++ room_test (2 * x.rows) x.scratch.now in
     let late : c.refuse-n-3.result ≡ first_refusal 0 (rest) =
         rw (c.refuse-n-3.ensures, c.refuse-n-2.ensures, c.refuse-n.ensures, c.log2.ensures.0) in
-    let fits : Fits c.before.before.before.before.before.before.before.before.before.before.before.before.before.before =
+    let fits : Fits c.args.rows c.args.cols c.args.point.now c.args.out.now c.args.scratch.now =
         let k = (first-refusal-clear 0 (rest) refl (sym (late) ∙ c.if-n-ne0-2.false)).1 in
         record { point = eqb-true _ _ (not-false _ k.0); out = ltb-false _ _ k.1.0; scratch = ltb-false _ _ k.1.1.0 } in
     let s = c in

@@ -13,10 +13,10 @@ use Rattle.magnetar_matrix.proofs.Blocks.{product-fits}
 use borrow.Author.Rules.{rules}
 use Rattle.magnetar_r1cs.proofs.r1cs.logins_refusal.Goals as goal
 
-record Small (s : goal.Start) : Type 0 where
-  least : 1 ≤ s.args.w
-  half : s.args.w ≤ 32768
-  logins : s.args.q ≤ 4096
+record Small (q w : ℕ) : Type 0 where
+  least : 1 ≤ w
+  half : w ≤ 32768
+  logins : q ≤ 4096
 
 pub returns-then-z-ne0 : goal.returns-then-z-ne0
 returns-then-z-ne0 c =
@@ -36,7 +36,7 @@ overflow_mul-q c =
         size_tests (2 * c.args.w) c.args.q in
     let early : c.refuse-z-2.result ≡ first_refusal 0 (first) =
         rw (c.refuse-z-2.ensures, c.is_size-2.ensures, c.refuse-z.ensures, c.is_size.ensures, half-size c.args.w) in
-    let small : Small c.before.before.before.before.before =
+    let small : Small c.args.q c.args.w =
         let k = (first-refusal-clear 0 (first) refl (sym (early) ∙ c.if-z-ne0.false)).1 in
         let z = not-bad k.0 in
         record { least = omega (arith, z.low); half = omega (arith, z.high); logins = (not-bad k.1.0).high } in
@@ -49,7 +49,7 @@ overflow_mul-w c =
         size_tests (2 * c.args.w) c.args.q in
     let early : c.refuse-z-2.result ≡ first_refusal 0 (first) =
         rw (c.refuse-z-2.ensures, c.is_size-2.ensures, c.refuse-z.ensures, c.is_size.ensures, half-size c.args.w) in
-    let small : Small c.before.before.before.before.before =
+    let small : Small c.args.q c.args.w =
         let k = (first-refusal-clear 0 (first) refl (sym (early) ∙ c.if-z-ne0.false)).1 in
         let z = not-bad k.0 in
         record { least = omega (arith, z.low); half = omega (arith, z.high); logins = (not-bad k.1.0).high } in
@@ -61,7 +61,7 @@ overflow_sub-w c =
         size_tests (2 * c.args.w) c.args.q in
     let early : c.refuse-z-2.result ≡ first_refusal 0 (first) =
         rw (c.refuse-z-2.ensures, c.is_size-2.ensures, c.refuse-z.ensures, c.is_size.ensures, half-size c.args.w) in
-    let small : Small c.before.before.before.before.before =
+    let small : Small c.args.q c.args.w =
         let k = (first-refusal-clear 0 (first) refl (sym (early) ∙ c.if-z-ne0.false)).1 in
         let z = not-bad k.0 in
         record { least = omega (arith, z.low); half = omega (arith, z.high); logins = (not-bad k.1.0).high } in
@@ -73,7 +73,7 @@ overflow_mul-q-2 c =
         size_tests (2 * c.args.w) c.args.q in
     let early : c.refuse-z-2.result ≡ first_refusal 0 (first) =
         rw (c.refuse-z-2.ensures, c.is_size-2.ensures, c.refuse-z.ensures, c.is_size.ensures, half-size c.args.w) in
-    let small : Small c.before.before.before.before.before =
+    let small : Small c.args.q c.args.w =
         let k = (first-refusal-clear 0 (first) refl (sym (early) ∙ c.if-z-ne0.false)).1 in
         let z = not-bad k.0 in
         record { least = omega (arith, z.low); half = omega (arith, z.high); logins = (not-bad k.1.0).high } in
@@ -106,7 +106,7 @@ overflow_mul-q-3 c =
         rw (c.refuse-z-2.ensures, c.is_size-2.ensures, c.refuse-z.ensures, c.is_size.ensures, half-size c.args.w) in
     let middle : c.refuse-z-5.result ≡ first_refusal 0 (second) =
         rw (c.refuse-z-5.ensures, c.is_size-3.ensures, c.refuse-z-4.ensures, c.refuse-z-3.ensures, c.login_words.ensures) in
-    let small : Small c.before.before.before.before.before =
+    let small : Small c.args.q c.args.w =
         let k = (first-refusal-clear 0 (first) refl (sym (early) ∙ c.if-z-ne0.false)).1 in
         let z = not-bad k.0 in
         record { least = omega (arith, z.low); half = omega (arith, z.high); logins = (not-bad k.1.0).high } in

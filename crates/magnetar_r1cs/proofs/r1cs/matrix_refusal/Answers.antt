@@ -1,6 +1,6 @@
 use mathlib.Core.Path.{◌≡◌, refl, sym, ◌∙◌}
 use mathlib.Core.List.{◌++◌}
-use Prim.Native.Nat.{◌*◌, ◌≤◌}
+use Prim.Native.Nat.{ℕ, ◌*◌, ◌≤◌}
 use native.Mathlib.Omega.{arith}
 use lib.ListN.{drop}
 use Rattle.magnetar_layout.specs.Tests.{Tests, first_refusal, size_tests, packed_tests, lone_row_tests, rows_tests, matrix_column_tests, counted, placed}
@@ -13,9 +13,9 @@ use Rattle.magnetar_matrix.proofs.Blocks.{product-fits}
 use borrow.Author.Rules.{rules}
 use Rattle.magnetar_r1cs.proofs.r1cs.matrix_refusal.Goals as goal
 
-record Small (s : goal.Start) : Type 0 where
-  half : s.args.w ≤ 32768
-  logins : s.args.q ≤ 4096
+record Small (q w : ℕ) : Type 0 where
+  half : w ≤ 32768
+  logins : q ≤ 4096
 
 pub returns-then-n-ne0 : goal.returns-then-n-ne0
 returns-then-n-ne0 c =
@@ -37,7 +37,7 @@ overflow_mul-q c =
         size_tests (2 * c.args.w) c.args.q in
     let early : c.refuse-n-2.result ≡ first_refusal 0 (first) =
         rw (c.refuse-n-2.ensures, c.is_size-2.ensures, c.refuse-n.ensures, c.is_size.ensures, half-size c.args.w) in
-    let small : Small c.before.before.before.before.before.before.before.before.before.before =
+    let small : Small c.args.q c.args.w =
         let k = (first-refusal-clear 0 (first) refl (sym (early) ∙ c.if-n-ne0.false)).1 in
         let z = not-bad k.0 in
         record { half = omega (arith, z.high); logins = (not-bad k.1.0).high } in
@@ -73,7 +73,7 @@ overflow_mul-q-2 c =
         rw (c.refuse-n-2.ensures, c.is_size-2.ensures, c.refuse-n.ensures, c.is_size.ensures, half-size c.args.w) in
     let middle : c.refuse-n-4.result ≡ first_refusal 0 (second) =
         rw (c.refuse-n-4.ensures, c.is_size-3.ensures, c.refuse-n-3.ensures, c.login_words.ensures) in
-    let small : Small c.before.before.before.before.before.before.before.before.before.before =
+    let small : Small c.args.q c.args.w =
         let k = (first-refusal-clear 0 (first) refl (sym (early) ∙ c.if-n-ne0.false)).1 in
         let z = not-bad k.0 in
         record { half = omega (arith, z.high); logins = (not-bad k.1.0).high } in
@@ -90,7 +90,7 @@ overflow_mul-w c =
         size_tests (2 * c.args.w) c.args.q in
     let early : c.refuse-n-2.result ≡ first_refusal 0 (first) =
         rw (c.refuse-n-2.ensures, c.is_size-2.ensures, c.refuse-n.ensures, c.is_size.ensures, half-size c.args.w) in
-    let small : Small c.before.before.before.before.before.before.before.before.before.before =
+    let small : Small c.args.q c.args.w =
         let k = (first-refusal-clear 0 (first) refl (sym (early) ∙ c.if-n-ne0.false)).1 in
         let z = not-bad k.0 in
         record { half = omega (arith, z.high); logins = (not-bad k.1.0).high } in

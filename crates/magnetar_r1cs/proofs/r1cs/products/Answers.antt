@@ -123,15 +123,15 @@ slice_bounds-login_product-count-in-loop-u c =
         public-part s.args.w _ _ c.loop-u.u _ s.requires.le_w.3 s.requires.le_w.1 refl s.requires.packed_len.1 c.loop-u-test.true in
     let p = columns_of in omega (arith, p.ends, p.small)
 
-pub slice_bounds-login_product-start-2 : goal.slice_bounds-login_product-start-2
-slice_bounds-login_product-start-2 c =
+pub slice_bounds-login_product-start-in-loop-u : goal.slice_bounds-login_product-start-in-loop-u
+slice_bounds-login_product-start-in-loop-u c =
     let columns_of : let x = c.args in PublicPart (length x.x.now) (2 * x.w - 2) c.loop-u.u x.q =
         let s = c in
         public-part s.args.w _ _ c.loop-u.u _ s.requires.le_w.3 s.requires.le_w.1 refl s.requires.packed_len.1 c.loop-u-test.true in
     let p = columns_of in omega (arith, p.ends, p.small)
 
-pub slice_bounds-login_product-end-2 : goal.slice_bounds-login_product-end-2
-slice_bounds-login_product-end-2 c =
+pub slice_bounds-login_product-end-in-loop-u : goal.slice_bounds-login_product-end-in-loop-u
+slice_bounds-login_product-end-in-loop-u c =
     let columns_of : let x = c.args in PublicPart (length x.x.now) (2 * x.w - 2) c.loop-u.u x.q =
         let s = c in
         public-part s.args.w _ _ c.loop-u.u _ s.requires.le_w.3 s.requires.le_w.1 refl s.requires.packed_len.1 c.loop-u-test.true in
@@ -153,16 +153,16 @@ slice_bounds-login_product-count-in-loop-u-2 c =
         block_of _ s.args.q (2 * s.args.n) l.u l.invariant.0 s.requires.le_w.3 (omega (arith, s.requires.le_w.5)) c.loop-u-test.true in
     let p = block in omega (arith, p.ends, p.small)
 
-pub slice_bounds-login_product-start-3 : goal.slice_bounds-login_product-start-3
-slice_bounds-login_product-start-3 c =
+pub slice_bounds-login_product-start-in-loop-u-2 : goal.slice_bounds-login_product-start-in-loop-u-2
+slice_bounds-login_product-start-in-loop-u-2 c =
     let block : let x = c.args in Block (length c.loop-u.out) c.loop-u.u (2 * x.n) =
         let s = c in
         let l = c.loop-u in
         block_of _ s.args.q (2 * s.args.n) l.u l.invariant.0 s.requires.le_w.3 (omega (arith, s.requires.le_w.5)) c.loop-u-test.true in
     let p = block in omega (arith, p.ends, p.small)
 
-pub slice_bounds-login_product-end-3 : goal.slice_bounds-login_product-end-3
-slice_bounds-login_product-end-3 c =
+pub slice_bounds-login_product-end-in-loop-u-2 : goal.slice_bounds-login_product-end-in-loop-u-2
+slice_bounds-login_product-end-in-loop-u-2 c =
     let block : let x = c.args in Block (length c.loop-u.out) c.loop-u.u (2 * x.n) =
         let s = c in
         let l = c.loop-u in

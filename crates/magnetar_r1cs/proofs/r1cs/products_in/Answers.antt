@@ -1,4 +1,5 @@
 use mathlib.Core.Path.{◌≡◌, sym, ap, ◌∙◌}
+use mathlib.Core.List.{List}
 use Prim.Native.Nat.{ℕ, ◌*◌, ◌≤◌, min}
 use native.Mathlib.Omega.{arith}
 use lib.ListN.{length}
@@ -10,11 +11,11 @@ use borrow.Author.Rules.{rules}
 use Rattle.magnetar_r1cs.proofs.r1cs.products_in.Goals as goal
 
 -- the range ends within each slice, of which none is long
-record Inside (e : ℕ) (s : goal.Start) : Type 0 where
-  row : e ≤ length s.args.row.now
-  col : e ≤ length s.args.col.now
-  lo : e ≤ length s.args.lo.now
-  hi : e ≤ length s.args.hi.now
+record Inside (e : ℕ) (r c l h : List ℕ) : Type 0 where
+  row : e ≤ length r
+  col : e ≤ length c
+  lo : e ≤ length l
+  hi : e ≤ length h
 
 pub returns-then-z-ne0 : goal.returns-then-z-ne0
 returns-then-z-ne0 c =
@@ -43,7 +44,7 @@ returns-then-out-end c =
 
 pub slice_bounds-products-end : goal.slice_bounds-products-end
 slice_bounds-products-end c =
-    let inside : Inside c.least-e.result c.before.before.before.before.before.before.before.before.before.before.before.before =
+    let inside : Inside c.least-e.result c.args.row.now c.args.col.now c.args.lo.now c.args.hi.now =
         let k = c.entries_held.ensures in
         let l = c.least-e.ensures in
         record { row = omega (arith, k.1, l.1); col = omega (arith, k.2, l.1); lo = omega (arith, k.3, l.1); hi = omega (arith, k.4, l.1) } in
@@ -51,7 +52,7 @@ slice_bounds-products-end c =
 
 pub slice_bounds-products-end-2 : goal.slice_bounds-products-end-2
 slice_bounds-products-end-2 c =
-    let inside : Inside c.least-e.result c.before.before.before.before.before.before.before.before.before.before.before.before =
+    let inside : Inside c.least-e.result c.args.row.now c.args.col.now c.args.lo.now c.args.hi.now =
         let k = c.entries_held.ensures in
         let l = c.least-e.ensures in
         record { row = omega (arith, k.1, l.1); col = omega (arith, k.2, l.1); lo = omega (arith, k.3, l.1); hi = omega (arith, k.4, l.1) } in
@@ -59,7 +60,7 @@ slice_bounds-products-end-2 c =
 
 pub slice_bounds-products-end-3 : goal.slice_bounds-products-end-3
 slice_bounds-products-end-3 c =
-    let inside : Inside c.least-e.result c.before.before.before.before.before.before.before.before.before.before.before.before =
+    let inside : Inside c.least-e.result c.args.row.now c.args.col.now c.args.lo.now c.args.hi.now =
         let k = c.entries_held.ensures in
         let l = c.least-e.ensures in
         record { row = omega (arith, k.1, l.1); col = omega (arith, k.2, l.1); lo = omega (arith, k.3, l.1); hi = omega (arith, k.4, l.1) } in
@@ -67,7 +68,7 @@ slice_bounds-products-end-3 c =
 
 pub slice_bounds-products-end-4 : goal.slice_bounds-products-end-4
 slice_bounds-products-end-4 c =
-    let inside : Inside c.least-e.result c.before.before.before.before.before.before.before.before.before.before.before.before =
+    let inside : Inside c.least-e.result c.args.row.now c.args.col.now c.args.lo.now c.args.hi.now =
         let k = c.entries_held.ensures in
         let l = c.least-e.ensures in
         record { row = omega (arith, k.1, l.1); col = omega (arith, k.2, l.1); lo = omega (arith, k.3, l.1); hi = omega (arith, k.4, l.1) } in
@@ -80,7 +81,7 @@ pub products-requires : goal.products-requires
 products-requires c =
     let ok : let x = c.args in Logins (length x.packed.now) (length x.x.now) x.q x.w x.n =
         let x = c.args in logins-clear _ _ x.q x.w x.n (sym c.logins_refusal-z.ensures ∙ c.if-z-ne0.false) in
-    let inside : Inside c.least-e.result c.before.before.before.before.before.before.before.before.before.before.before.before =
+    let inside : Inside c.least-e.result c.args.row.now c.args.col.now c.args.lo.now c.args.hi.now =
         let k = c.entries_held.ensures in
         let l = c.least-e.ensures in
         record { row = omega (arith, k.1, l.1); col = omega (arith, k.2, l.1); lo = omega (arith, k.3, l.1); hi = omega (arith, k.4, l.1) } in

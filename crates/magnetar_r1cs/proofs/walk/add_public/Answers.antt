@@ -12,10 +12,6 @@ use Rattle.magnetar_r1cs.proofs.walk.add_public.Goals as goal
 pub loop-i-init : goal.loop-i-init
 loop-i-init c = (refl, walked_start _ _ _)
 
-shared-slice-read-add-public-share-2 :
-    goal.bounds-col-i
-shared-slice-read-add-public-share-2 c = search rules
-
 pub loop-i-preserved : goal.loop-i-preserved
 loop-i-preserved c =
     let s = c in

@@ -18,14 +18,14 @@ returns-then-not-is_bit c =
     let s = c in
     let x = s.args in
     let l = c.loop-i in
-    tested-not _ _ l.i l.invariant _ (entry_at x.row.now x.col.now x.lo.now x.hi.now l.i s.requires (omega arith)) (sym c.is_bit.ensures ∙ not-true _ c.if-not-is_bit.true)
+    tested-not _ _ l.i l.invariant _ (entry_at x.row.now x.col.now x.lo.now x.hi.now l.i s.requires (omega arith)) (sym c.is_bit.ensures ∙ c.if-not-is_bit.true)
 
 pub loop-i-preserved : goal.loop-i-preserved
 loop-i-preserved c =
     let s = c in
     let x = s.args in
     let l = c.loop-i in
-    tested-more _ _ l.i l.invariant _ (entry_at x.row.now x.col.now x.lo.now x.hi.now l.i s.requires (omega arith)) (sym c.is_bit.ensures ∙ not-false _ c.if-not-is_bit.false)
+    tested-more _ _ l.i l.invariant _ (entry_at x.row.now x.col.now x.lo.now x.hi.now l.i s.requires (omega arith)) (sym c.is_bit.ensures ∙ c.if-not-is_bit.false)
 
 pub returns : goal.returns
 returns c =

@@ -21,7 +21,7 @@ loop-i-preserved c =
     let l = c.loop-i in
     let n = least-all in
     told_more (lies_at x.s) _ x.row.now x.col.now x.lo.now x.hi.now l.i l.acc _ (omega (arith, n)) (omega (arith, n)) (omega (arith, n)) (omega (arith, n))
-    c.lies_at_lem.ensures l.invariant
+    c.lies_at-acc.ensures l.invariant
 
 pub returns : goal.returns
 returns c =

@@ -1,5 +1,5 @@
 use mathlib.Core.Path.{◌≡◌, refl, sym, ◌∙◌}
-use Prim.Native.Nat.{◌≤◌}
+use Prim.Native.Nat.{ℕ, ◌≤◌}
 use native.Mathlib.Omega.{arith}
 use borrow.Author.Tests.{ne_eqb}
 use Rattle.magnetar_layout.specs.Tests.{first_refusal, packed_tests}
@@ -13,9 +13,9 @@ use borrow.Author.Rules.{rules}
 use Rattle.magnetar_relation.proofs.stray.first_stray.Goals as goal
 
 -- what is known of the sizes then
-record Small (s : goal.Start) : Type 0 where
-  half : s.args.w ≤ 32768
-  logins : s.args.q ≤ 4096
+record Small (q w : ℕ) : Type 0 where
+  half : w ≤ 32768
+  logins : q ≤ 4096
 
 pub returns-then-n-ne0 : goal.returns-then-n-ne0
 returns-then-n-ne0 c =
@@ -29,7 +29,7 @@ pub overflow_mul-q : goal.overflow_mul-q
 overflow_mul-q c =
     let early : let x = c.args in c.refuse-n-2.result ≡ first_refusal 0 (sizes x.q x.w x.lens.now x.packed.now) =
         rw (c.refuse-n-2.ensures, c.is_size-2.ensures, c.refuse-n.ensures, c.is_size.ensures, half-size c.args.w) in
-    let small : Small c.before.before.before.before.before.before.before =
+    let small : Small c.args.q c.args.w =
         let x = c.args in
         let k = (first-refusal-clear 0 (sizes x.q x.w x.lens.now x.packed.now) refl (sym (early) ∙ c.if-n-ne0.false)).1 in
         let z = not-bad k.0 in
@@ -65,7 +65,7 @@ pub first_login-requires : goal.first_login-requires
 first_login-requires c =
     let early : let x = c.args in c.refuse-n-2.result ≡ first_refusal 0 (sizes x.q x.w x.lens.now x.packed.now) =
         rw (c.refuse-n-2.ensures, c.is_size-2.ensures, c.refuse-n.ensures, c.is_size.ensures, half-size c.args.w) in
-    let small : Small c.before.before.before.before.before.before.before =
+    let small : Small c.args.q c.args.w =
         let x = c.args in
         let k = (first-refusal-clear 0 (sizes x.q x.w x.lens.now x.packed.now) refl (sym (early) ∙ c.if-n-ne0.false)).1 in
         let z = not-bad k.0 in
