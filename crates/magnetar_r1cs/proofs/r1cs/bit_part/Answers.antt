@@ -6,4 +6,4 @@ use Rattle.magnetar_r1cs.proofs.r1cs.bit_part.Goals as goal
 pub returns : goal.returns
 returns c =
     let s = c in
-    kept-words _ s.args.out.now _ s.requires.out_len (search rules) c.add_bits.ensures (λ i. omega (arith, c.slice_known-2-1.given i))
+    kept-words _ s.args.out.now _ s.requires.out_len (search rules) c.add_bits.ensures (λ i. omega (arith, c.type_inv.out i))

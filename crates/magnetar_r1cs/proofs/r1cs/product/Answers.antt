@@ -6,4 +6,4 @@ use Rattle.magnetar_r1cs.proofs.r1cs.product.Goals as goal
 pub returns : goal.returns
 returns c =
     let s = c in
-    cleared-raised _ s.args.out.now _ _ s.requires.out_len (search rules) c.clear.ensures c.add_product.ensures (λ i. omega (arith, c.slice_known-3-1.given i))
+    cleared-raised _ s.args.out.now _ _ s.requires.out_len (search rules) c.clear.ensures c.add_product.ensures (λ i. omega (arith, c.type_inv.out i))
