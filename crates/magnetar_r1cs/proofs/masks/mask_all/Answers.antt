@@ -17,25 +17,25 @@ loop-low-init c = (refl, search rules, blocks_start _ c.args.out.now c.args.m)
 pub overflow_mul-a : goal.overflow_mul-a
 overflow_mul-a c =
     let block : let x = c.args in Block (length c.loop-low.out) c.loop-low.low x.m =
-        let s = c in let l = c.loop-low in block_of _ s.args.d s.args.m l.low (l.invariant.0 ∙ s.requires.w_bound.7) s.requires.w_bound.4 (omega (arith, s.requires.w_bound.5)) c.loop-low-test.true in
+    let s = c in let l = c.loop-low in block_of _ s.args.d s.args.m l.low (l.invariant.0 ∙ s.requires.w_bound.7) s.requires.w_bound.4 (omega (arith, s.requires.w_bound.5)) c.loop-low-test.true in
     let p = block in omega (arith, p.ends, p.small)
 
 pub overflow_add-b : goal.overflow_add-b
 overflow_add-b c =
     let block : let x = c.args in Block (length c.loop-low.out) c.loop-low.low x.m =
-        let s = c in let l = c.loop-low in block_of _ s.args.d s.args.m l.low (l.invariant.0 ∙ s.requires.w_bound.7) s.requires.w_bound.4 (omega (arith, s.requires.w_bound.5)) c.loop-low-test.true in
+    let s = c in let l = c.loop-low in block_of _ s.args.d s.args.m l.low (l.invariant.0 ∙ s.requires.w_bound.7) s.requires.w_bound.4 (omega (arith, s.requires.w_bound.5)) c.loop-low-test.true in
     let p = block in omega (arith, p.ends, p.small)
 
 pub offset_bounds-out-a : goal.offset_bounds-out-a
 offset_bounds-out-a c =
     let block : let x = c.args in Block (length c.loop-low.out) c.loop-low.low x.m =
-        let s = c in let l = c.loop-low in block_of _ s.args.d s.args.m l.low (l.invariant.0 ∙ s.requires.w_bound.7) s.requires.w_bound.4 (omega (arith, s.requires.w_bound.5)) c.loop-low-test.true in
+    let s = c in let l = c.loop-low in block_of _ s.args.d s.args.m l.low (l.invariant.0 ∙ s.requires.w_bound.7) s.requires.w_bound.4 (omega (arith, s.requires.w_bound.5)) c.loop-low-test.true in
     let p = block in omega (arith, p.ends, p.small)
 
 pub slice_bounds-mask_rows-end : goal.slice_bounds-mask_rows-end
 slice_bounds-mask_rows-end c =
     let block : let x = c.args in Block (length c.loop-low.out) c.loop-low.low x.m =
-        let s = c in let l = c.loop-low in block_of _ s.args.d s.args.m l.low (l.invariant.0 ∙ s.requires.w_bound.7) s.requires.w_bound.4 (omega (arith, s.requires.w_bound.5)) c.loop-low-test.true in
+    let s = c in let l = c.loop-low in block_of _ s.args.d s.args.m l.low (l.invariant.0 ∙ s.requires.w_bound.7) s.requires.w_bound.4 (omega (arith, s.requires.w_bound.5)) c.loop-low-test.true in
     let p = block in omega (arith, p.ends, p.small)
 
 pub mask_rows-requires : goal.mask_rows-requires
@@ -48,7 +48,7 @@ mask_rows-requires c =
 pub loop-low-preserved : goal.loop-low-preserved
 loop-low-preserved c =
     let block : let x = c.args in Block (length c.loop-low.out) c.loop-low.low x.m =
-        let s = c in let l = c.loop-low in block_of _ s.args.d s.args.m l.low (l.invariant.0 ∙ s.requires.w_bound.7) s.requires.w_bound.4 (omega (arith, s.requires.w_bound.5)) c.loop-low-test.true in
+    let s = c in let l = c.loop-low in block_of _ s.args.d s.args.m l.low (l.invariant.0 ∙ s.requires.w_bound.7) s.requires.w_bound.4 (omega (arith, s.requires.w_bound.5)) c.loop-low-test.true in
     let s = c in
     let x = s.args in
     let l = c.loop-low in

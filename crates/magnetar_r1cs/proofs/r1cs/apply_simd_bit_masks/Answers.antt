@@ -29,13 +29,13 @@ pub returns-then-n-ne0 : goal.returns-then-n-ne0
 unfolding masks_refusal
 returns-then-n-ne0 c =
     let mat : Lent =
-        let x = c.args in lent x.rows x.cols x.row.now x.col.now x.lo.now x.hi.now in
+    let x = c.args in lent x.rows x.cols x.row.now x.col.now x.lo.now x.hi.now in
     let first : Tests =
-        let x = c.args in matrix_tests (mat) x.packed.now x.q x.w in
+    let x = c.args in matrix_tests (mat) x.packed.now x.q x.w in
     let second : Tests =
-        let x = c.args in mask_tests (mat) x.q x.w x.v in
+    let x = c.args in mask_tests (mat) x.q x.w x.v in
     let third : Tests =
-        let x = c.args in room_test (mask_count (mat) x.q x.v) x.out.now in
+    let x = c.args in room_test (mask_count (mat) x.q x.v) x.out.now in
     let s = c in
     let e = first-refusal-front (first) (second ++ third) _ c.matrix_refusal-n.ensures c.if-n-ne0.true in record {
       answer = e;
@@ -45,9 +45,9 @@ returns-then-n-ne0 c =
 pub bit_valued-requires : goal.bit_valued-requires
 bit_valued-requires c =
     let mat : Lent =
-        let x = c.args in lent x.rows x.cols x.row.now x.col.now x.lo.now x.hi.now in
+    let x = c.args in lent x.rows x.cols x.row.now x.col.now x.lo.now x.hi.now in
     let ok : let s = c in Batched (mat) s.args.packed.now [] s.args.q s.args.w =
-        masked _ _ _ _ (sym c.matrix_refusal-n.ensures ∙ c.if-n-ne0.false) in
+    masked _ _ _ _ (sym c.matrix_refusal-n.ensures ∙ c.if-n-ne0.false) in
     let o = ok in record {
       equal = o.entries.equal;
       w_bound = o.half;
@@ -57,15 +57,15 @@ pub returns-then-n-ne0-2 : goal.returns-then-n-ne0-2
 unfolding masks_refusal bit_valued matrix_of
 returns-then-n-ne0-2 c =
     let mat : Lent =
-        let x = c.args in lent x.rows x.cols x.row.now x.col.now x.lo.now x.hi.now in
+    let x = c.args in lent x.rows x.cols x.row.now x.col.now x.lo.now x.hi.now in
     let first : Tests =
-        let x = c.args in matrix_tests (mat) x.packed.now x.q x.w in
+    let x = c.args in matrix_tests (mat) x.packed.now x.q x.w in
     let second : Tests =
-        let x = c.args in mask_tests (mat) x.q x.w x.v in
+    let x = c.args in mask_tests (mat) x.q x.w x.v in
     let third : Tests =
-        let x = c.args in room_test (mask_count (mat) x.q x.v) x.out.now in
+    let x = c.args in room_test (mask_count (mat) x.q x.v) x.out.now in
     let late : c.refuse-n-3.result ≡ first_refusal 0 (second) =
-        rw (c.refuse-n-3.ensures, c.refuse-n-2.ensures, c.refuse-n.ensures, c.bit_valued.ensures, c.log2-s.ensures.0) in
+    rw (c.refuse-n-3.ensures, c.refuse-n-2.ensures, c.refuse-n.ensures, c.bit_valued.ensures, c.log2-s.ensures.0) in
     let s = c in
     let e = first-refusal-late (first) (second ++ third) _ _ c.matrix_refusal-n.ensures c.if-n-ne0.false (first-refusal-front (second) (third) _ (late) c.if-n-ne0-2.true) in record {
       answer = e;
@@ -76,74 +76,74 @@ pub overflow_sub-s : goal.overflow_sub-s
 unfolding bit_valued matrix_of
 overflow_sub-s c =
     let mat : Lent =
-        let x = c.args in lent x.rows x.cols x.row.now x.col.now x.lo.now x.hi.now in
+    let x = c.args in lent x.rows x.cols x.row.now x.col.now x.lo.now x.hi.now in
     let second : Tests =
-        let x = c.args in mask_tests (mat) x.q x.w x.v in
+    let x = c.args in mask_tests (mat) x.q x.w x.v in
     let late : c.refuse-n-3.result ≡ first_refusal 0 (second) =
-        rw (c.refuse-n-3.ensures, c.refuse-n-2.ensures, c.refuse-n.ensures, c.bit_valued.ensures, c.log2-s.ensures.0) in
+    rw (c.refuse-n-3.ensures, c.refuse-n-2.ensures, c.refuse-n.ensures, c.bit_valued.ensures, c.log2-s.ensures.0) in
     let ok : let s = c in Batched (mat) s.args.packed.now [] s.args.q s.args.w =
-        masked _ _ _ _ (sym c.matrix_refusal-n.ensures ∙ c.if-n-ne0.false) in
+    masked _ _ _ _ (sym c.matrix_refusal-n.ensures ∙ c.if-n-ne0.false) in
     let fits : Fits (mat) c.args.q c.args.w c.args.v =
-        let s = c in
-        let k = (first-refusal-clear 0 (second) refl (sym (late) ∙ c.if-n-ne0-2.false)).1 in
-        let h = ltb-false _ _ k.1.0 in
-        record { bits = not-false _ k.0; most = h; powers = powers-of s.args.q s.args.v (ok).logins h (ltb-false _ _ k.1.1.0) } in
+    let s = c in
+    let k = (first-refusal-clear 0 (second) refl (sym (late) ∙ c.if-n-ne0-2.false)).1 in
+    let h = ltb-false _ _ k.1.0 in
+    record { bits = not-false _ k.0; most = h; powers = powers-of s.args.q s.args.v (ok).logins h (ltb-false _ _ k.1.1.0) } in
     rw c.log2-s.ensures.0 (fits).most
 
 pub overflow_mul-end : goal.overflow_mul-end
 unfolding bit_valued matrix_of
 overflow_mul-end c =
     let mat : Lent =
-        let x = c.args in lent x.rows x.cols x.row.now x.col.now x.lo.now x.hi.now in
+    let x = c.args in lent x.rows x.cols x.row.now x.col.now x.lo.now x.hi.now in
     let second : Tests =
-        let x = c.args in mask_tests (mat) x.q x.w x.v in
+    let x = c.args in mask_tests (mat) x.q x.w x.v in
     let late : c.refuse-n-3.result ≡ first_refusal 0 (second) =
-        rw (c.refuse-n-3.ensures, c.refuse-n-2.ensures, c.refuse-n.ensures, c.bit_valued.ensures, c.log2-s.ensures.0) in
+    rw (c.refuse-n-3.ensures, c.refuse-n-2.ensures, c.refuse-n.ensures, c.bit_valued.ensures, c.log2-s.ensures.0) in
     let ok : let s = c in Batched (mat) s.args.packed.now [] s.args.q s.args.w =
-        masked _ _ _ _ (sym c.matrix_refusal-n.ensures ∙ c.if-n-ne0.false) in
+    masked _ _ _ _ (sym c.matrix_refusal-n.ensures ∙ c.if-n-ne0.false) in
     let fits : Fits (mat) c.args.q c.args.w c.args.v =
-        let s = c in
-        let k = (first-refusal-clear 0 (second) refl (sym (late) ∙ c.if-n-ne0-2.false)).1 in
-        let h = ltb-false _ _ k.1.0 in
-        record { bits = not-false _ k.0; most = h; powers = powers-of s.args.q s.args.v (ok).logins h (ltb-false _ _ k.1.1.0) } in
+    let s = c in
+    let k = (first-refusal-clear 0 (second) refl (sym (late) ∙ c.if-n-ne0-2.false)).1 in
+    let h = ltb-false _ _ k.1.0 in
+    record { bits = not-false _ k.0; most = h; powers = powers-of s.args.q s.args.v (ok).logins h (ltb-false _ _ k.1.1.0) } in
     let low_small : c.log2-s.result - c.args.v < 64 =
-        omega (arith, c.log2-s.ensures.0, (fits).powers.small) in
+    omega (arith, c.log2-s.ensures.0, (fits).powers.small) in
     let low-is : let x = c.args in c.power_of_two-d.result ≡ 2 ^ (log₂ x.q - x.v) =
-        c.power_of_two-d.ensures ∙ power-is _ (low_small) ∙ ap (λ (k : ℕ). 2 ^ (k - c.args.v)) c.log2-s.ensures.0 in
+    c.power_of_two-d.ensures ∙ power-is _ (low_small) ∙ ap (λ (k : ℕ). 2 ^ (k - c.args.v)) c.log2-s.ensures.0 in
     let low-most : c.power_of_two-d.result ≤ 4096 =
-        rw (low-is) (fits).powers.lows in
+    rw (low-is) (fits).powers.lows in
     omega (
-  arith,
-  product-fits c.power_of_two-d.result c.args.rows (low-most) (omega (
-    arith,
-    (ok).rows_size.high,
-  )),
-)
+      arith,
+      product-fits c.power_of_two-d.result c.args.rows (low-most) (omega (
+        arith,
+        (ok).rows_size.high,
+      )),
+    )
 
 pub returns-then-out-end : goal.returns-then-out-end
 unfolding masks_refusal bit_valued matrix_of
 returns-then-out-end c =
     let mat : Lent =
-        let x = c.args in lent x.rows x.cols x.row.now x.col.now x.lo.now x.hi.now in
+    let x = c.args in lent x.rows x.cols x.row.now x.col.now x.lo.now x.hi.now in
     let first : Tests =
-        let x = c.args in matrix_tests (mat) x.packed.now x.q x.w in
+    let x = c.args in matrix_tests (mat) x.packed.now x.q x.w in
     let second : Tests =
-        let x = c.args in mask_tests (mat) x.q x.w x.v in
+    let x = c.args in mask_tests (mat) x.q x.w x.v in
     let third : Tests =
-        let x = c.args in room_test (mask_count (mat) x.q x.v) x.out.now in
+    let x = c.args in room_test (mask_count (mat) x.q x.v) x.out.now in
     let late : c.refuse-n-3.result ≡ first_refusal 0 (second) =
-        rw (c.refuse-n-3.ensures, c.refuse-n-2.ensures, c.refuse-n.ensures, c.bit_valued.ensures, c.log2-s.ensures.0) in
+    rw (c.refuse-n-3.ensures, c.refuse-n-2.ensures, c.refuse-n.ensures, c.bit_valued.ensures, c.log2-s.ensures.0) in
     let ok : let s = c in Batched (mat) s.args.packed.now [] s.args.q s.args.w =
-        masked _ _ _ _ (sym c.matrix_refusal-n.ensures ∙ c.if-n-ne0.false) in
+    masked _ _ _ _ (sym c.matrix_refusal-n.ensures ∙ c.if-n-ne0.false) in
     let fits : Fits (mat) c.args.q c.args.w c.args.v =
-        let s = c in
-        let k = (first-refusal-clear 0 (second) refl (sym (late) ∙ c.if-n-ne0-2.false)).1 in
-        let h = ltb-false _ _ k.1.0 in
-        record { bits = not-false _ k.0; most = h; powers = powers-of s.args.q s.args.v (ok).logins h (ltb-false _ _ k.1.1.0) } in
+    let s = c in
+    let k = (first-refusal-clear 0 (second) refl (sym (late) ∙ c.if-n-ne0-2.false)).1 in
+    let h = ltb-false _ _ k.1.0 in
+    record { bits = not-false _ k.0; most = h; powers = powers-of s.args.q s.args.v (ok).logins h (ltb-false _ _ k.1.1.0) } in
     let low_small : c.log2-s.result - c.args.v < 64 =
-        omega (arith, c.log2-s.ensures.0, (fits).powers.small) in
+    omega (arith, c.log2-s.ensures.0, (fits).powers.small) in
     let low-is : let x = c.args in c.power_of_two-d.result ≡ 2 ^ (log₂ x.q - x.v) =
-        c.power_of_two-d.ensures ∙ power-is _ (low_small) ∙ ap (λ (k : ℕ). 2 ^ (k - c.args.v)) c.log2-s.ensures.0 in
+    c.power_of_two-d.ensures ∙ power-is _ (low_small) ∙ ap (λ (k : ℕ). 2 ^ (k - c.args.v)) c.log2-s.ensures.0 in
     let s = c in
     let x = s.args in
     let t : length x.out.now < mask_count (mat) x.q x.v = rw (← low-is) c.if-out-end.true in
@@ -159,28 +159,28 @@ pub mask_all-requires : goal.mask_all-requires
 unfolding bit_valued matrix_of
 mask_all-requires c =
     let mat : Lent =
-        let x = c.args in lent x.rows x.cols x.row.now x.col.now x.lo.now x.hi.now in
+    let x = c.args in lent x.rows x.cols x.row.now x.col.now x.lo.now x.hi.now in
     let second : Tests =
-        let x = c.args in mask_tests (mat) x.q x.w x.v in
+    let x = c.args in mask_tests (mat) x.q x.w x.v in
     let late : c.refuse-n-3.result ≡ first_refusal 0 (second) =
-        rw (c.refuse-n-3.ensures, c.refuse-n-2.ensures, c.refuse-n.ensures, c.bit_valued.ensures, c.log2-s.ensures.0) in
+    rw (c.refuse-n-3.ensures, c.refuse-n-2.ensures, c.refuse-n.ensures, c.bit_valued.ensures, c.log2-s.ensures.0) in
     let ok : let s = c in Batched (mat) s.args.packed.now [] s.args.q s.args.w =
-        masked _ _ _ _ (sym c.matrix_refusal-n.ensures ∙ c.if-n-ne0.false) in
+    masked _ _ _ _ (sym c.matrix_refusal-n.ensures ∙ c.if-n-ne0.false) in
     let fits : Fits (mat) c.args.q c.args.w c.args.v =
-        let s = c in
-        let k = (first-refusal-clear 0 (second) refl (sym (late) ∙ c.if-n-ne0-2.false)).1 in
-        let h = ltb-false _ _ k.1.0 in
-        record { bits = not-false _ k.0; most = h; powers = powers-of s.args.q s.args.v (ok).logins h (ltb-false _ _ k.1.1.0) } in
+    let s = c in
+    let k = (first-refusal-clear 0 (second) refl (sym (late) ∙ c.if-n-ne0-2.false)).1 in
+    let h = ltb-false _ _ k.1.0 in
+    record { bits = not-false _ k.0; most = h; powers = powers-of s.args.q s.args.v (ok).logins h (ltb-false _ _ k.1.1.0) } in
     let low_small : c.log2-s.result - c.args.v < 64 =
-        omega (arith, c.log2-s.ensures.0, (fits).powers.small) in
+    omega (arith, c.log2-s.ensures.0, (fits).powers.small) in
     let high_is : c.power_of_two-c.result ≡ 2 ^ c.args.v =
-        c.power_of_two-c.ensures ∙ power-is _ (omega (arith, (fits).most, (fits).powers.small)) in
+    c.power_of_two-c.ensures ∙ power-is _ (omega (arith, (fits).most, (fits).powers.small)) in
     let low-is : let x = c.args in c.power_of_two-d.result ≡ 2 ^ (log₂ x.q - x.v) =
-        c.power_of_two-d.ensures ∙ power-is _ (low_small) ∙ ap (λ (k : ℕ). 2 ^ (k - c.args.v)) c.log2-s.ensures.0 in
+    c.power_of_two-d.ensures ∙ power-is _ (low_small) ∙ ap (λ (k : ℕ). 2 ^ (k - c.args.v)) c.log2-s.ensures.0 in
     let low-most : c.power_of_two-d.result ≤ 4096 =
-        rw (low-is) (fits).powers.lows in
+    rw (low-is) (fits).powers.lows in
     let all-logins : c.power_of_two-c.result * c.power_of_two-d.result ≡ c.args.q =
-        rw (low-is, high_is) (fits).powers.all in
+    rw (low-is, high_is) (fits).powers.all in
     let o = ok in
     let p = c in record {
       equal = o.entries.equal;
@@ -200,28 +200,28 @@ pub returns : goal.returns
 unfolding masks_refusal bit_valued matrix_of
 returns c =
     let mat : Lent =
-        let x = c.args in lent x.rows x.cols x.row.now x.col.now x.lo.now x.hi.now in
+    let x = c.args in lent x.rows x.cols x.row.now x.col.now x.lo.now x.hi.now in
     let first : Tests =
-        let x = c.args in matrix_tests (mat) x.packed.now x.q x.w in
+    let x = c.args in matrix_tests (mat) x.packed.now x.q x.w in
     let second : Tests =
-        let x = c.args in mask_tests (mat) x.q x.w x.v in
+    let x = c.args in mask_tests (mat) x.q x.w x.v in
     let third : Tests =
-        let x = c.args in room_test (mask_count (mat) x.q x.v) x.out.now in
+    let x = c.args in room_test (mask_count (mat) x.q x.v) x.out.now in
     let late : c.refuse-n-3.result ≡ first_refusal 0 (second) =
-        rw (c.refuse-n-3.ensures, c.refuse-n-2.ensures, c.refuse-n.ensures, c.bit_valued.ensures, c.log2-s.ensures.0) in
+    rw (c.refuse-n-3.ensures, c.refuse-n-2.ensures, c.refuse-n.ensures, c.bit_valued.ensures, c.log2-s.ensures.0) in
     let ok : let s = c in Batched (mat) s.args.packed.now [] s.args.q s.args.w =
-        masked _ _ _ _ (sym c.matrix_refusal-n.ensures ∙ c.if-n-ne0.false) in
+    masked _ _ _ _ (sym c.matrix_refusal-n.ensures ∙ c.if-n-ne0.false) in
     let fits : Fits (mat) c.args.q c.args.w c.args.v =
-        let s = c in
-        let k = (first-refusal-clear 0 (second) refl (sym (late) ∙ c.if-n-ne0-2.false)).1 in
-        let h = ltb-false _ _ k.1.0 in
-        record { bits = not-false _ k.0; most = h; powers = powers-of s.args.q s.args.v (ok).logins h (ltb-false _ _ k.1.1.0) } in
+    let s = c in
+    let k = (first-refusal-clear 0 (second) refl (sym (late) ∙ c.if-n-ne0-2.false)).1 in
+    let h = ltb-false _ _ k.1.0 in
+    record { bits = not-false _ k.0; most = h; powers = powers-of s.args.q s.args.v (ok).logins h (ltb-false _ _ k.1.1.0) } in
     let low_small : c.log2-s.result - c.args.v < 64 =
-        omega (arith, c.log2-s.ensures.0, (fits).powers.small) in
+    omega (arith, c.log2-s.ensures.0, (fits).powers.small) in
     let high_is : c.power_of_two-c.result ≡ 2 ^ c.args.v =
-        c.power_of_two-c.ensures ∙ power-is _ (omega (arith, (fits).most, (fits).powers.small)) in
+    c.power_of_two-c.ensures ∙ power-is _ (omega (arith, (fits).most, (fits).powers.small)) in
     let low-is : let x = c.args in c.power_of_two-d.result ≡ 2 ^ (log₂ x.q - x.v) =
-        c.power_of_two-d.ensures ∙ power-is _ (low_small) ∙ ap (λ (k : ℕ). 2 ^ (k - c.args.v)) c.log2-s.ensures.0 in
+    c.power_of_two-d.ensures ∙ power-is _ (low_small) ∙ ap (λ (k : ℕ). 2 ^ (k - c.args.v)) c.log2-s.ensures.0 in
     let s = c in
     let x = s.args in
     let k = c in

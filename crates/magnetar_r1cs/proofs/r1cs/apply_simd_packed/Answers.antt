@@ -22,11 +22,11 @@ pub returns-then-n-ne0 : goal.returns-then-n-ne0
 unfolding packed_refusal
 returns-then-n-ne0 c =
     let mat : Lent =
-        let x = c.args in lent x.rows x.cols x.row.now x.col.now x.lo.now x.hi.now in
+    let x = c.args in lent x.rows x.cols x.row.now x.col.now x.lo.now x.hi.now in
     let tests : Tests =
-        let x = c.args in batch_tests (mat) x.packed.now x.x.now x.q x.w in
+    let x = c.args in batch_tests (mat) x.packed.now x.x.now x.q x.w in
     let size : ℕ =
-        c.args.q * (2 * c.args.rows) in
+    c.args.q * (2 * c.args.rows) in
     let e = first-refusal-front (tests) (room_test (size) c.args.out.now) _ c.batch_refusal-n.ensures c.if-n-ne0.true in record {
       flag = flag-refused _ e c.if-n-ne0.true;
       products = turned _ _ e c.if-n-ne0.true;
@@ -35,31 +35,31 @@ returns-then-n-ne0 c =
 pub overflow_mul-end : goal.overflow_mul-end
 overflow_mul-end c =
     let mat : Lent =
-        let x = c.args in lent x.rows x.cols x.row.now x.col.now x.lo.now x.hi.now in
+    let x = c.args in lent x.rows x.cols x.row.now x.col.now x.lo.now x.hi.now in
     let ok : let s = c in Batched (mat) s.args.packed.now s.args.x.now s.args.q s.args.w =
-        batched _ _ _ _ _ (sym c.batch_refusal-n.ensures ∙ c.if-n-ne0.false) in
+    batched _ _ _ _ _ (sym c.batch_refusal-n.ensures ∙ c.if-n-ne0.false) in
     omega (arith, (ok).rows_size.high)
 
 pub overflow_mul-end-2 : goal.overflow_mul-end-2
 overflow_mul-end-2 c =
     let mat : Lent =
-        let x = c.args in lent x.rows x.cols x.row.now x.col.now x.lo.now x.hi.now in
+    let x = c.args in lent x.rows x.cols x.row.now x.col.now x.lo.now x.hi.now in
     let ok : let s = c in Batched (mat) s.args.packed.now s.args.x.now s.args.q s.args.w =
-        batched _ _ _ _ _ (sym c.batch_refusal-n.ensures ∙ c.if-n-ne0.false) in
+    batched _ _ _ _ _ (sym c.batch_refusal-n.ensures ∙ c.if-n-ne0.false) in
     omega (
-  arith,
-  product-fits c.args.q (2 * c.args.rows) (ok).logins.high (omega (arith, (ok).rows_size.high)),
-)
+      arith,
+      product-fits c.args.q (2 * c.args.rows) (ok).logins.high (omega (arith, (ok).rows_size.high)),
+    )
 
 pub returns-then-out-end : goal.returns-then-out-end
 unfolding packed_refusal
 returns-then-out-end c =
     let mat : Lent =
-        let x = c.args in lent x.rows x.cols x.row.now x.col.now x.lo.now x.hi.now in
+    let x = c.args in lent x.rows x.cols x.row.now x.col.now x.lo.now x.hi.now in
     let tests : Tests =
-        let x = c.args in batch_tests (mat) x.packed.now x.x.now x.q x.w in
+    let x = c.args in batch_tests (mat) x.packed.now x.x.now x.q x.w in
     let size : ℕ =
-        c.args.q * (2 * c.args.rows) in
+    c.args.q * (2 * c.args.rows) in
     let s = c in
     let e : ◌≡◌ {A = ℕ} 15 (first_refusal 0 (tests ++ room_test (size) s.args.out.now)) = first-refusal-late (tests) (room_test (size) s.args.out.now) _ _ c.batch_refusal-n.ensures c.if-n-ne0.false (room-short (size) s.args.out.now c.if-out-end.true) in record {
       flag = flag-refused {n = 15} _ e (λ h. omega (arith, h));
@@ -72,13 +72,13 @@ slice_bounds-products-end-2 c = sym (length-take-le _ _ (omega arith))
 pub products-requires : goal.products-requires
 products-requires c =
     let mat : Lent =
-        let x = c.args in lent x.rows x.cols x.row.now x.col.now x.lo.now x.hi.now in
+    let x = c.args in lent x.rows x.cols x.row.now x.col.now x.lo.now x.hi.now in
     let ok : let s = c in Batched (mat) s.args.packed.now s.args.x.now s.args.q s.args.w =
-        batched _ _ _ _ _ (sym c.batch_refusal-n.ensures ∙ c.if-n-ne0.false) in
+    batched _ _ _ _ _ (sym c.batch_refusal-n.ensures ∙ c.if-n-ne0.false) in
     let public : let x = c.args in length x.x.now ≡ x.q * public_words x.w =
-        let s = c in
-        let x = s.args in
-        batched-public (mat) x.packed.now x.x.now x.q x.w (sym c.batch_refusal-n.ensures ∙ c.if-n-ne0.false) in
+    let s = c in
+    let x = s.args in
+    batched-public (mat) x.packed.now x.x.now x.q x.w (sym c.batch_refusal-n.ensures ∙ c.if-n-ne0.false) in
     let o = ok in record {
       equal = o.entries.equal;
       le_w = (o.least, o.half, o.logins.low, o.logins.high, o.rows_size.low, o.rows_size.high);
@@ -88,9 +88,9 @@ products-requires c =
 pub bit_valued-requires : goal.bit_valued-requires
 bit_valued-requires c =
     let mat : Lent =
-        let x = c.args in lent x.rows x.cols x.row.now x.col.now x.lo.now x.hi.now in
+    let x = c.args in lent x.rows x.cols x.row.now x.col.now x.lo.now x.hi.now in
     let ok : let s = c in Batched (mat) s.args.packed.now s.args.x.now s.args.q s.args.w =
-        batched _ _ _ _ _ (sym c.batch_refusal-n.ensures ∙ c.if-n-ne0.false) in
+    batched _ _ _ _ _ (sym c.batch_refusal-n.ensures ∙ c.if-n-ne0.false) in
     let o = ok in record {
       equal = o.entries.equal;
       w_bound = o.half;
@@ -100,14 +100,14 @@ pub returns-then-bit_valued : goal.returns-then-bit_valued
 unfolding bit_valued matrix_of packed_refusal
 returns-then-bit_valued c =
     let mat : Lent =
-        let x = c.args in lent x.rows x.cols x.row.now x.col.now x.lo.now x.hi.now in
+    let x = c.args in lent x.rows x.cols x.row.now x.col.now x.lo.now x.hi.now in
     let tests : Tests =
-        let x = c.args in batch_tests (mat) x.packed.now x.x.now x.q x.w in
+    let x = c.args in batch_tests (mat) x.packed.now x.x.now x.q x.w in
     let size : ℕ =
-        c.args.q * (2 * c.args.rows) in
+    c.args.q * (2 * c.args.rows) in
     let none : let s = c in ◌≡◌ {A = ℕ} 0 (packed_refusal
     (mat) s.args.packed.now s.args.x.now s.args.q s.args.w s.args.out.now) =
-        first-refusal-late (tests) (room_test (size) c.args.out.now) _ _ c.batch_refusal-n.ensures c.if-n-ne0.false (room-enough (size) c.args.out.now (omega arith)) in
+    first-refusal-late (tests) (room_test (size) c.args.out.now) _ _ c.batch_refusal-n.ensures c.if-n-ne0.false (room-enough (size) c.args.out.now (omega arith)) in
     let s = c in
     let x = s.args in
     let e = none in record {
@@ -119,14 +119,14 @@ pub returns : goal.returns
 unfolding bit_valued matrix_of packed_refusal
 returns c =
     let mat : Lent =
-        let x = c.args in lent x.rows x.cols x.row.now x.col.now x.lo.now x.hi.now in
+    let x = c.args in lent x.rows x.cols x.row.now x.col.now x.lo.now x.hi.now in
     let tests : Tests =
-        let x = c.args in batch_tests (mat) x.packed.now x.x.now x.q x.w in
+    let x = c.args in batch_tests (mat) x.packed.now x.x.now x.q x.w in
     let size : ℕ =
-        c.args.q * (2 * c.args.rows) in
+    c.args.q * (2 * c.args.rows) in
     let none : let s = c in ◌≡◌ {A = ℕ} 0 (packed_refusal
     (mat) s.args.packed.now s.args.x.now s.args.q s.args.w s.args.out.now) =
-        first-refusal-late (tests) (room_test (size) c.args.out.now) _ _ c.batch_refusal-n.ensures c.if-n-ne0.false (room-enough (size) c.args.out.now (omega arith)) in
+    first-refusal-late (tests) (room_test (size) c.args.out.now) _ _ c.batch_refusal-n.ensures c.if-n-ne0.false (room-enough (size) c.args.out.now (omega arith)) in
     let s = c in
     let x = s.args in
     let e = none in record {

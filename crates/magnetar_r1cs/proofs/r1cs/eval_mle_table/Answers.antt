@@ -28,9 +28,9 @@ pub returns-then-n-ne0 : goal.returns-then-n-ne0
 unfolding table_refusal
 returns-then-n-ne0 c =
     let mat : Lent =
-        let x = c.args in lent x.rows x.cols x.row.now x.col.now x.lo.now x.hi.now in
+    let x = c.args in lent x.rows x.cols x.row.now x.col.now x.lo.now x.hi.now in
     let rest : Tests =
-        let x = c.args in length_test (2 * log₂ x.rows) x.point.now ++ room_test (2 * x.cols) x.out.now ++ room_test (2 * x.rows) x.scratch.now in
+    let x = c.args in length_test (2 * log₂ x.rows) x.point.now ++ room_test (2 * x.cols) x.out.now ++ room_test (2 * x.rows) x.scratch.now in
     let e = first-refusal-front (lone_tests (mat)) (rest) _ c.lone-n.ensures c.if-n-ne0.true in record {
       answer = e;
       table = turned _ _ e c.if-n-ne0.true;
@@ -40,37 +40,37 @@ returns-then-n-ne0 c =
 pub overflow_mul-log2 : goal.overflow_mul-log2
 overflow_mul-log2 c =
     let mat : Lent =
-        let x = c.args in lent x.rows x.cols x.row.now x.col.now x.lo.now x.hi.now in
+    let x = c.args in lent x.rows x.cols x.row.now x.col.now x.lo.now x.hi.now in
     let z = (lone (mat) (sym c.lone-n.ensures ∙ c.if-n-ne0.false)).rows_size in
     omega (arith, c.log2.ensures.0, log-most _ z.high z.power)
 
 pub overflow_mul-cols : goal.overflow_mul-cols
 overflow_mul-cols c =
     let mat : Lent =
-        let x = c.args in lent x.rows x.cols x.row.now x.col.now x.lo.now x.hi.now in
+    let x = c.args in lent x.rows x.cols x.row.now x.col.now x.lo.now x.hi.now in
     omega (
-  arith,
-  (lone (mat) (sym c.lone-n.ensures ∙ c.if-n-ne0.false)).cols_size.high,
-)
+      arith,
+      (lone (mat) (sym c.lone-n.ensures ∙ c.if-n-ne0.false)).cols_size.high,
+    )
 
 pub overflow_mul-rows : goal.overflow_mul-rows
 overflow_mul-rows c =
     let mat : Lent =
-        let x = c.args in lent x.rows x.cols x.row.now x.col.now x.lo.now x.hi.now in
+    let x = c.args in lent x.rows x.cols x.row.now x.col.now x.lo.now x.hi.now in
     omega (
-  arith,
-  (lone (mat) (sym c.lone-n.ensures ∙ c.if-n-ne0.false)).rows_size.high,
-)
+      arith,
+      (lone (mat) (sym c.lone-n.ensures ∙ c.if-n-ne0.false)).rows_size.high,
+    )
 
 pub returns-then-n-ne0-2 : goal.returns-then-n-ne0-2
 unfolding table_refusal
 returns-then-n-ne0-2 c =
     let mat : Lent =
-        let x = c.args in lent x.rows x.cols x.row.now x.col.now x.lo.now x.hi.now in
+    let x = c.args in lent x.rows x.cols x.row.now x.col.now x.lo.now x.hi.now in
     let rest : Tests =
-        let x = c.args in length_test (2 * log₂ x.rows) x.point.now ++ room_test (2 * x.cols) x.out.now ++ room_test (2 * x.rows) x.scratch.now in
+    let x = c.args in length_test (2 * log₂ x.rows) x.point.now ++ room_test (2 * x.cols) x.out.now ++ room_test (2 * x.rows) x.scratch.now in
     let late : c.refuse-n-3.result ≡ first_refusal 0 (rest) =
-        rw (c.refuse-n-3.ensures, c.refuse-n-2.ensures, c.refuse-n.ensures, c.log2.ensures.0) in
+    rw (c.refuse-n-3.ensures, c.refuse-n-2.ensures, c.refuse-n.ensures, c.log2.ensures.0) in
     let e = first-refusal-late (lone_tests (mat)) (rest) _ _ c.lone-n.ensures c.if-n-ne0.false (late) in record {
       answer = e;
       table = turned _ _ e c.if-n-ne0-2.true;
@@ -80,76 +80,76 @@ returns-then-n-ne0-2 c =
 pub overflow_mul-end : goal.overflow_mul-end
 overflow_mul-end c =
     let mat : Lent =
-        let x = c.args in lent x.rows x.cols x.row.now x.col.now x.lo.now x.hi.now in
+    let x = c.args in lent x.rows x.cols x.row.now x.col.now x.lo.now x.hi.now in
     let matrix-fits : Lone (mat) =
-        lone _ (sym c.lone-n.ensures ∙ c.if-n-ne0.false) in
+    lone _ (sym c.lone-n.ensures ∙ c.if-n-ne0.false) in
     omega (arith, (matrix-fits).cols_size.high)
 
 pub overflow_mul-room : goal.overflow_mul-room
 overflow_mul-room c =
     let mat : Lent =
-        let x = c.args in lent x.rows x.cols x.row.now x.col.now x.lo.now x.hi.now in
+    let x = c.args in lent x.rows x.cols x.row.now x.col.now x.lo.now x.hi.now in
     let matrix-fits : Lone (mat) =
-        lone _ (sym c.lone-n.ensures ∙ c.if-n-ne0.false) in
+    lone _ (sym c.lone-n.ensures ∙ c.if-n-ne0.false) in
     omega (arith, (matrix-fits).rows_size.high)
 
 pub slice_bounds-table_in-end : goal.slice_bounds-table_in-end
 slice_bounds-table_in-end c =
     let rest : Tests =
-        let x = c.args in length_test (2 * log₂ x.rows) x.point.now ++ room_test (2 * x.cols) x.out.now ++ room_test (2 * x.rows) x.scratch.now in
+    let x = c.args in length_test (2 * log₂ x.rows) x.point.now ++ room_test (2 * x.cols) x.out.now ++ room_test (2 * x.rows) x.scratch.now in
     let late : c.refuse-n-3.result ≡ first_refusal 0 (rest) =
-        rw (c.refuse-n-3.ensures, c.refuse-n-2.ensures, c.refuse-n.ensures, c.log2.ensures.0) in
+    rw (c.refuse-n-3.ensures, c.refuse-n-2.ensures, c.refuse-n.ensures, c.log2.ensures.0) in
     let fits : Fits c.args.rows c.args.cols c.args.point.now c.args.out.now c.args.scratch.now =
-        let k = (first-refusal-clear 0 (rest) refl (sym (late) ∙ c.if-n-ne0-2.false)).1 in
-        record { point = eqb-true _ _ (not-false _ k.0); out = ltb-false _ _ k.1.0; scratch = ltb-false _ _ k.1.1.0 } in
+    let k = (first-refusal-clear 0 (rest) refl (sym (late) ∙ c.if-n-ne0-2.false)).1 in
+    record { point = eqb-true _ _ (not-false _ k.0); out = ltb-false _ _ k.1.0; scratch = ltb-false _ _ k.1.1.0 } in
     (fits).out
 
 pub slice_bounds-table_in-end-2 : goal.slice_bounds-table_in-end-2
 slice_bounds-table_in-end-2 c =
     let rest : Tests =
-        let x = c.args in length_test (2 * log₂ x.rows) x.point.now ++ room_test (2 * x.cols) x.out.now ++ room_test (2 * x.rows) x.scratch.now in
+    let x = c.args in length_test (2 * log₂ x.rows) x.point.now ++ room_test (2 * x.cols) x.out.now ++ room_test (2 * x.rows) x.scratch.now in
     let late : c.refuse-n-3.result ≡ first_refusal 0 (rest) =
-        rw (c.refuse-n-3.ensures, c.refuse-n-2.ensures, c.refuse-n.ensures, c.log2.ensures.0) in
+    rw (c.refuse-n-3.ensures, c.refuse-n-2.ensures, c.refuse-n.ensures, c.log2.ensures.0) in
     let fits : Fits c.args.rows c.args.cols c.args.point.now c.args.out.now c.args.scratch.now =
-        let k = (first-refusal-clear 0 (rest) refl (sym (late) ∙ c.if-n-ne0-2.false)).1 in
-        record { point = eqb-true _ _ (not-false _ k.0); out = ltb-false _ _ k.1.0; scratch = ltb-false _ _ k.1.1.0 } in
+    let k = (first-refusal-clear 0 (rest) refl (sym (late) ∙ c.if-n-ne0-2.false)).1 in
+    record { point = eqb-true _ _ (not-false _ k.0); out = ltb-false _ _ k.1.0; scratch = ltb-false _ _ k.1.1.0 } in
     sym (length-take-le _ _ (fits).out)
 
 pub slice_bounds-table_in-end-3 : goal.slice_bounds-table_in-end-3
 slice_bounds-table_in-end-3 c =
     let rest : Tests =
-        let x = c.args in length_test (2 * log₂ x.rows) x.point.now ++ room_test (2 * x.cols) x.out.now ++ room_test (2 * x.rows) x.scratch.now in
+    let x = c.args in length_test (2 * log₂ x.rows) x.point.now ++ room_test (2 * x.cols) x.out.now ++ room_test (2 * x.rows) x.scratch.now in
     let late : c.refuse-n-3.result ≡ first_refusal 0 (rest) =
-        rw (c.refuse-n-3.ensures, c.refuse-n-2.ensures, c.refuse-n.ensures, c.log2.ensures.0) in
+    rw (c.refuse-n-3.ensures, c.refuse-n-2.ensures, c.refuse-n.ensures, c.log2.ensures.0) in
     let fits : Fits c.args.rows c.args.cols c.args.point.now c.args.out.now c.args.scratch.now =
-        let k = (first-refusal-clear 0 (rest) refl (sym (late) ∙ c.if-n-ne0-2.false)).1 in
-        record { point = eqb-true _ _ (not-false _ k.0); out = ltb-false _ _ k.1.0; scratch = ltb-false _ _ k.1.1.0 } in
+    let k = (first-refusal-clear 0 (rest) refl (sym (late) ∙ c.if-n-ne0-2.false)).1 in
+    record { point = eqb-true _ _ (not-false _ k.0); out = ltb-false _ _ k.1.0; scratch = ltb-false _ _ k.1.1.0 } in
     (fits).scratch
 
 pub slice_bounds-table_in-end-4 : goal.slice_bounds-table_in-end-4
 slice_bounds-table_in-end-4 c =
     let rest : Tests =
-        let x = c.args in length_test (2 * log₂ x.rows) x.point.now ++ room_test (2 * x.cols) x.out.now ++ room_test (2 * x.rows) x.scratch.now in
+    let x = c.args in length_test (2 * log₂ x.rows) x.point.now ++ room_test (2 * x.cols) x.out.now ++ room_test (2 * x.rows) x.scratch.now in
     let late : c.refuse-n-3.result ≡ first_refusal 0 (rest) =
-        rw (c.refuse-n-3.ensures, c.refuse-n-2.ensures, c.refuse-n.ensures, c.log2.ensures.0) in
+    rw (c.refuse-n-3.ensures, c.refuse-n-2.ensures, c.refuse-n.ensures, c.log2.ensures.0) in
     let fits : Fits c.args.rows c.args.cols c.args.point.now c.args.out.now c.args.scratch.now =
-        let k = (first-refusal-clear 0 (rest) refl (sym (late) ∙ c.if-n-ne0-2.false)).1 in
-        record { point = eqb-true _ _ (not-false _ k.0); out = ltb-false _ _ k.1.0; scratch = ltb-false _ _ k.1.1.0 } in
+    let k = (first-refusal-clear 0 (rest) refl (sym (late) ∙ c.if-n-ne0-2.false)).1 in
+    record { point = eqb-true _ _ (not-false _ k.0); out = ltb-false _ _ k.1.0; scratch = ltb-false _ _ k.1.1.0 } in
     sym (length-take-le _ _ (fits).scratch)
 
 pub table_in-requires : goal.table_in-requires
 table_in-requires c =
     let mat : Lent =
-        let x = c.args in lent x.rows x.cols x.row.now x.col.now x.lo.now x.hi.now in
+    let x = c.args in lent x.rows x.cols x.row.now x.col.now x.lo.now x.hi.now in
     let rest : Tests =
-        let x = c.args in length_test (2 * log₂ x.rows) x.point.now ++ room_test (2 * x.cols) x.out.now ++ room_test (2 * x.rows) x.scratch.now in
+    let x = c.args in length_test (2 * log₂ x.rows) x.point.now ++ room_test (2 * x.cols) x.out.now ++ room_test (2 * x.rows) x.scratch.now in
     let late : c.refuse-n-3.result ≡ first_refusal 0 (rest) =
-        rw (c.refuse-n-3.ensures, c.refuse-n-2.ensures, c.refuse-n.ensures, c.log2.ensures.0) in
+    rw (c.refuse-n-3.ensures, c.refuse-n-2.ensures, c.refuse-n.ensures, c.log2.ensures.0) in
     let matrix-fits : Lone (mat) =
-        lone _ (sym c.lone-n.ensures ∙ c.if-n-ne0.false) in
+    lone _ (sym c.lone-n.ensures ∙ c.if-n-ne0.false) in
     let fits : Fits c.args.rows c.args.cols c.args.point.now c.args.out.now c.args.scratch.now =
-        let k = (first-refusal-clear 0 (rest) refl (sym (late) ∙ c.if-n-ne0-2.false)).1 in
-        record { point = eqb-true _ _ (not-false _ k.0); out = ltb-false _ _ k.1.0; scratch = ltb-false _ _ k.1.1.0 } in
+    let k = (first-refusal-clear 0 (rest) refl (sym (late) ∙ c.if-n-ne0-2.false)).1 in
+    record { point = eqb-true _ _ (not-false _ k.0); out = ltb-false _ _ k.1.0; scratch = ltb-false _ _ k.1.1.0 } in
     let m = matrix-fits in
     let f = fits in record {
       equal = flipped m.entries.equal;
@@ -161,14 +161,14 @@ pub returns : goal.returns
 unfolding table_refusal mle_table times times_at transpose matrix_of
 returns c =
     let mat : Lent =
-        let x = c.args in lent x.rows x.cols x.row.now x.col.now x.lo.now x.hi.now in
+    let x = c.args in lent x.rows x.cols x.row.now x.col.now x.lo.now x.hi.now in
     let rest : Tests =
-        let x = c.args in length_test (2 * log₂ x.rows) x.point.now ++ room_test (2 * x.cols) x.out.now ++ room_test (2 * x.rows) x.scratch.now in
+    let x = c.args in length_test (2 * log₂ x.rows) x.point.now ++ room_test (2 * x.cols) x.out.now ++ room_test (2 * x.rows) x.scratch.now in
     let late : c.refuse-n-3.result ≡ first_refusal 0 (rest) =
-        rw (c.refuse-n-3.ensures, c.refuse-n-2.ensures, c.refuse-n.ensures, c.log2.ensures.0) in
+    rw (c.refuse-n-3.ensures, c.refuse-n-2.ensures, c.refuse-n.ensures, c.log2.ensures.0) in
     let fits : Fits c.args.rows c.args.cols c.args.point.now c.args.out.now c.args.scratch.now =
-        let k = (first-refusal-clear 0 (rest) refl (sym (late) ∙ c.if-n-ne0-2.false)).1 in
-        record { point = eqb-true _ _ (not-false _ k.0); out = ltb-false _ _ k.1.0; scratch = ltb-false _ _ k.1.1.0 } in
+    let k = (first-refusal-clear 0 (rest) refl (sym (late) ∙ c.if-n-ne0-2.false)).1 in
+    record { point = eqb-true _ _ (not-false _ k.0); out = ltb-false _ _ k.1.0; scratch = ltb-false _ _ k.1.1.0 } in
     let s = c in
     let k = c in
     let e = sym k.if-n-ne0-2.false ∙ first-refusal-late (lone_tests (mat)) (rest) _ _ k.lone-n.ensures k.if-n-ne0.false (late) in

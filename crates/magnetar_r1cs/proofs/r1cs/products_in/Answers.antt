@@ -26,13 +26,13 @@ returns-then-z-ne0 c =
 pub overflow_mul-end : goal.overflow_mul-end
 overflow_mul-end c =
     let ok : let x = c.args in Logins (length x.packed.now) (length x.x.now) x.q x.w x.n =
-        let x = c.args in logins-clear _ _ x.q x.w x.n (sym c.logins_refusal-z.ensures ∙ c.if-z-ne0.false) in
+    let x = c.args in logins-clear _ _ x.q x.w x.n (sym c.logins_refusal-z.ensures ∙ c.if-z-ne0.false) in
     omega (arith, (ok).rows.high)
 
 pub overflow_mul-end-2 : goal.overflow_mul-end-2
 overflow_mul-end-2 c =
     let ok : let x = c.args in Logins (length x.packed.now) (length x.x.now) x.q x.w x.n =
-        let x = c.args in logins-clear _ _ x.q x.w x.n (sym c.logins_refusal-z.ensures ∙ c.if-z-ne0.false) in
+    let x = c.args in logins-clear _ _ x.q x.w x.n (sym c.logins_refusal-z.ensures ∙ c.if-z-ne0.false) in
     let x = c.args in
     omega (arith, product-fits x.q (2 * x.n) (ok).logins.high (omega (arith, (ok).rows.high)))
 
@@ -45,33 +45,33 @@ returns-then-out-end c =
 pub slice_bounds-products-end : goal.slice_bounds-products-end
 slice_bounds-products-end c =
     let inside : Inside c.least-e.result c.args.row.now c.args.col.now c.args.lo.now c.args.hi.now =
-        let k = c.entries_held.ensures in
-        let l = c.least-e.ensures in
-        record { row = omega (arith, k.1, l.1); col = omega (arith, k.2, l.1); lo = omega (arith, k.3, l.1); hi = omega (arith, k.4, l.1) } in
+    let k = c.entries_held.ensures in
+    let l = c.least-e.ensures in
+    record { row = omega (arith, k.1, l.1); col = omega (arith, k.2, l.1); lo = omega (arith, k.3, l.1); hi = omega (arith, k.4, l.1) } in
     omega (arith, (inside).row)
 
 pub slice_bounds-products-end-2 : goal.slice_bounds-products-end-2
 slice_bounds-products-end-2 c =
     let inside : Inside c.least-e.result c.args.row.now c.args.col.now c.args.lo.now c.args.hi.now =
-        let k = c.entries_held.ensures in
-        let l = c.least-e.ensures in
-        record { row = omega (arith, k.1, l.1); col = omega (arith, k.2, l.1); lo = omega (arith, k.3, l.1); hi = omega (arith, k.4, l.1) } in
+    let k = c.entries_held.ensures in
+    let l = c.least-e.ensures in
+    record { row = omega (arith, k.1, l.1); col = omega (arith, k.2, l.1); lo = omega (arith, k.3, l.1); hi = omega (arith, k.4, l.1) } in
     omega (arith, (inside).col)
 
 pub slice_bounds-products-end-3 : goal.slice_bounds-products-end-3
 slice_bounds-products-end-3 c =
     let inside : Inside c.least-e.result c.args.row.now c.args.col.now c.args.lo.now c.args.hi.now =
-        let k = c.entries_held.ensures in
-        let l = c.least-e.ensures in
-        record { row = omega (arith, k.1, l.1); col = omega (arith, k.2, l.1); lo = omega (arith, k.3, l.1); hi = omega (arith, k.4, l.1) } in
+    let k = c.entries_held.ensures in
+    let l = c.least-e.ensures in
+    record { row = omega (arith, k.1, l.1); col = omega (arith, k.2, l.1); lo = omega (arith, k.3, l.1); hi = omega (arith, k.4, l.1) } in
     omega (arith, (inside).lo)
 
 pub slice_bounds-products-end-4 : goal.slice_bounds-products-end-4
 slice_bounds-products-end-4 c =
     let inside : Inside c.least-e.result c.args.row.now c.args.col.now c.args.lo.now c.args.hi.now =
-        let k = c.entries_held.ensures in
-        let l = c.least-e.ensures in
-        record { row = omega (arith, k.1, l.1); col = omega (arith, k.2, l.1); lo = omega (arith, k.3, l.1); hi = omega (arith, k.4, l.1) } in
+    let k = c.entries_held.ensures in
+    let l = c.least-e.ensures in
+    record { row = omega (arith, k.1, l.1); col = omega (arith, k.2, l.1); lo = omega (arith, k.3, l.1); hi = omega (arith, k.4, l.1) } in
     omega (arith, (inside).hi)
 
 pub slice_bounds-products-end-6 : goal.slice_bounds-products-end-6
@@ -80,11 +80,11 @@ slice_bounds-products-end-6 c = sym (length-take-le _ _ (omega arith))
 pub products-requires : goal.products-requires
 products-requires c =
     let ok : let x = c.args in Logins (length x.packed.now) (length x.x.now) x.q x.w x.n =
-        let x = c.args in logins-clear _ _ x.q x.w x.n (sym c.logins_refusal-z.ensures ∙ c.if-z-ne0.false) in
+    let x = c.args in logins-clear _ _ x.q x.w x.n (sym c.logins_refusal-z.ensures ∙ c.if-z-ne0.false) in
     let inside : Inside c.least-e.result c.args.row.now c.args.col.now c.args.lo.now c.args.hi.now =
-        let k = c.entries_held.ensures in
-        let l = c.least-e.ensures in
-        record { row = omega (arith, k.1, l.1); col = omega (arith, k.2, l.1); lo = omega (arith, k.3, l.1); hi = omega (arith, k.4, l.1) } in
+    let k = c.entries_held.ensures in
+    let l = c.least-e.ensures in
+    record { row = omega (arith, k.1, l.1); col = omega (arith, k.2, l.1); lo = omega (arith, k.3, l.1); hi = omega (arith, k.4, l.1) } in
     let x = c.args in
     let o = ok in
     let i = inside in record {

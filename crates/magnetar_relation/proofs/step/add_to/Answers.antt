@@ -17,7 +17,7 @@ slice_bounds-add_at-end-then-n-out c = sym (length-take-le _ _ (omega arith))
 pub returns-then-n-out : goal.returns-then-n-out
 returns-then-n-out c =
     added-words _ _ _ _ _ (omega arith) c.add_at.auto.out (ap elements c.add_at.ensures ∙ added-in _ _ _)
-    (λ i. omega (arith, c.slice_known-then-n-out-1.given i))
+    (λ i. omega (arith, c.type_inv.out i))
 
 pub returns-else-n-out : goal.returns-else-n-out
 unfolding added_to

@@ -31,8 +31,8 @@ returns-then-v-ne0 c =
         let x = c.args in bit_and (get_or x.words.now c.loop-k.k 0) (get_or x.mask.now c.loop-k.k 0) in
     let s = c in
     let l = c.loop-k in
-    let a : get_or s.args.words.now l.k 0 < 2 ^ 64 = omega (arith, c.shared_slice_known-1.given l.k) in
-    let b : get_or s.args.mask.now l.k 0 < 2 ^ 64 = omega (arith, c.shared_slice_known-in-loop-k-1.given l.k) in
+    let a : get_or s.args.words.now l.k 0 < 2 ^ 64 = omega (arith, c.type_inv.words l.k) in
+    let b : get_or s.args.mask.now l.k 0 < 2 ^ 64 = omega (arith, c.type_inv.mask l.k) in
     first-common s.args.mask.now s.args.words.now l.k (common) refl c.if-v-ne0.true (and_lt 64 _ _ a b) s.args.w s.requires.none_past l.invariant.1
 
 pub loop-k-preserved : goal.loop-k-preserved
