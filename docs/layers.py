@@ -64,7 +64,7 @@ def listed():
 
 def used(name, below):
     text = "".join(p.read_text() for p in sorted((TOP / "crates" / name).rglob("*")) if p.suffix in (".rt", ".antt"))
-    return {d for d in below if re.search(rf"(use {d}\b|\b{d}::|Rattle·{d}[.·])", text)}
+    return {d for d in below if re.search(rf"(use {d}\b|\b{d}::|Rattle\.{d}\.)", text)}
 
 
 def lines():

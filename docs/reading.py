@@ -14,7 +14,7 @@ from pathlib import Path
 ROOT = Path(__file__).resolve().parent.parent
 ENTRIES = "crates/magnetar_spartan/src/virtual_spartan.rt"
 # a list is a function of what is before its draw, by its type; that it has at most three elements stands in the theorem
-STOP = {"badDraws", "absorbedBefore"}
+STOP = {"bad_draws", "absorbed_before"}
 WORD = re.compile(r"[^\s(){}\[\],;.⌜⌝λ→×]+")
 
 
@@ -43,7 +43,7 @@ class Spec:
             m = re.match(r"(?:ghost |pub |unfoldable pub )?use (\S+?)\.\{(.*)\};?$", line)
             if m:
                 for name in m.group(2).split(", "):
-                    self.imports[name.split(" as ")[-1].strip("_") if " as " in name else name.strip("_") or name] = m.group(1)
+                    self.imports[name.split(" as ")[-1].strip("◌") if " as " in name else name.strip("◌") or name] = m.group(1)
             m = re.match(r"use (\S+) as (\S+)$", line)
             if m:
                 self.renamed[m.group(2)] = m.group(1)
@@ -69,14 +69,14 @@ class Spec:
         for line in code:
             m = re.match(r"\s*(?:abbrev |unfoldable )*(?:pub )?(?:record|data) (\S+)", line) or re.match(r"\s*(?:abbrev |unfoldable )+(?:pub )?(\S+) :", line) or re.match(r"\s*pub (\S+) :", line)
             if m:
-                yield m.group(1).strip("_")
+                yield m.group(1).strip("◌")
 
 
 def place(module):
-    m = re.match(r"Rattle·(\w+?)(?:·specs)?\.specs\.declared\.(\w+)\.(\w+)$", module)
+    m = re.match(r"Rattle\.(\w+)\.specs\.declared\.(\w+)\.(\w+)$", module)
     if m:
         return ("declared", ROOT / "crates" / m.group(1) / "src" / (m.group(2) + ".rt"), m.group(3))
-    m = re.match(r"Rattle·(\w+?)(?:·specs\.specs|\.specs)\.(\w+)$", module)
+    m = re.match(r"Rattle\.(magnetar_\w+)\.specs\.(\w+)$", module)
     return ("spec", ROOT / "crates" / m.group(1) / "specs" / (m.group(2) + ".antt"), None) if m else None
 
 
@@ -106,7 +106,7 @@ def reach():
     def uses(s, code):
         text = "\n".join(code)
         for token in set(WORD.findall(text)):
-            token = token.strip("_")
+            token = token.strip("◌")
             if token in s.items:
                 visit(s.path, token)
             elif token in s.imports:
