@@ -4,7 +4,7 @@ use Rattle.std.proofs.Common.{◌≡◌, ℕ, ◌+◌, ◌<◌, List, [], ◌∷
 use Rattle.magnetar_hash.specs.Bytes.{le_bytes, word_bytes}
 use Rattle.magnetar_hash.specs.Sha3.{rate}
 use Rattle.magnetar_hash.specs.Parts.{framed, serialize_parts, sha3_domain}
-use Rattle.magnetar_hash.specs.Sponge.{Sponge, sponge, fed, finished, within, started, ValidFill, Fed}
+use Rattle.magnetar_hash.specs.Sponge.{Sponge, sponge, fed, finished, within, started}
 use Rattle.magnetar_hash.proofs.Stream.{fed-append, fed-fill, sha3-fed}
 use Rattle.magnetar_hash.proofs.Parts.{framed-one, framed-append}
 

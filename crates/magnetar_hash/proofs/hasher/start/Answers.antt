@@ -1,6 +1,5 @@
 use Rattle.magnetar_hash.specs.Sponge.{started}
 use Rattle.magnetar_hash.proofs.Stream.{fed-join}
-use Rattle.std.proofs.Common.{rules}
 use Rattle.magnetar_hash.proofs.hasher.start.Goals as goal
 
 pub returns : goal.returns

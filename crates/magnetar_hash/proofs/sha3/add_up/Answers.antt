@@ -1,5 +1,5 @@
-use Rattle.std.proofs.Common.{◌-◌, ◌≤◌, length, rules}
-use Rattle.magnetar_hash.proofs.Lengths.{Used, used-none, used-more, used_over, used_all}
+use Rattle.std.proofs.Common.{rules}
+use Rattle.magnetar_hash.proofs.Lengths.{used-none, used-more, used_over, used_all}
 use Rattle.magnetar_hash.proofs.sha3.add_up.Goals as goal
 
 pub loop-i-init : goal.loop-i-init

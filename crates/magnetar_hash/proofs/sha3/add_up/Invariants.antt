@@ -1,5 +1,5 @@
-use Rattle.std.proofs.Common.{◌-◌, ◌≤◌, length, rules}
-use Rattle.magnetar_hash.proofs.Lengths.{Used, used-none, used-more, used_over, used_all}
+use Rattle.std.proofs.Common.{◌-◌, ◌≤◌, length}
+use Rattle.magnetar_hash.proofs.Lengths.{Used}
 use Rattle.magnetar_hash.proofs.sha3.add_up.Given as goal
 
 abbrev pub invariant-loop-i : goal.invariant-loop-i

@@ -1,4 +1,4 @@
-use Rattle.std.proofs.Common.{refl, rules}
+use Rattle.std.proofs.Common.{refl}
 use Rattle.magnetar_hash.proofs.Parts.{part-fed}
 use Rattle.magnetar_hash.proofs.sha3.feed_part.Goals as goal
 

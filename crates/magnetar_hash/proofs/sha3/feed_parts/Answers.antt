@@ -1,7 +1,6 @@
-use Rattle.std.proofs.Common.{◌-◌, length, drop, arith, rules}
-use Rattle.magnetar_hash.specs.Parts.{framed, parts}
-use Rattle.magnetar_hash.proofs.Left.{Left, left-all}
-use Rattle.magnetar_hash.proofs.Lengths.{Rest, rest_all, rest-fits, rest_more}
+use Rattle.std.proofs.Common.{arith, rules}
+use Rattle.magnetar_hash.proofs.Left.{left-all}
+use Rattle.magnetar_hash.proofs.Lengths.{rest_all, rest-fits, rest_more}
 use Rattle.magnetar_hash.proofs.Parts.{left-part, left-parts-end}
 use Rattle.magnetar_hash.proofs.sha3.feed_parts.Goals as goal
 

@@ -1,8 +1,7 @@
-use Rattle.std.proofs.Common.{◌-◌, length, drop, arith, rules}
+use Rattle.std.proofs.Common.{◌-◌, length, drop}
 use Rattle.magnetar_hash.specs.Parts.{framed, parts}
-use Rattle.magnetar_hash.proofs.Left.{Left, left-all}
-use Rattle.magnetar_hash.proofs.Lengths.{Rest, rest_all, rest-fits, rest_more}
-use Rattle.magnetar_hash.proofs.Parts.{left-part, left-parts-end}
+use Rattle.magnetar_hash.proofs.Left.{Left}
+use Rattle.magnetar_hash.proofs.Lengths.{Rest}
 use Rattle.magnetar_hash.proofs.sha3.feed_parts.Given as goal
 
 abbrev pub invariant-loop-i : goal.invariant-loop-i

@@ -1,5 +1,4 @@
 use Rattle.magnetar_hash.proofs.Parts.{word-part-fed}
-use Rattle.std.proofs.Common.{rules}
 use Rattle.magnetar_hash.proofs.sha3.feed_word_part.Goals as goal
 
 pub returns : goal.returns

@@ -1,4 +1,4 @@
-use Rattle.std.proofs.Common.{sym, rules}
+use Rattle.std.proofs.Common.{sym}
 use Rattle.magnetar_hash.specs.Bytes.{word_bytes}
 use Rattle.magnetar_hash.proofs.Parts.{part-fed}
 use Rattle.magnetar_hash.proofs.Bytes.{length-words}

@@ -1,4 +1,4 @@
-use Rattle.std.proofs.Common.{sym, rules}
+use Rattle.std.proofs.Common.{sym}
 use Rattle.magnetar_hash.specs.Parts.{parts}
 use Rattle.magnetar_hash.proofs.Parts.{serialized, length-parts}
 use Rattle.magnetar_hash.proofs.sha3.serialize_parts.Goals as goal

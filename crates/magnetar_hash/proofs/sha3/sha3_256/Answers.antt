@@ -1,4 +1,4 @@
-use Rattle.std.proofs.Common.{◌∙◌, rules}
+use Rattle.std.proofs.Common.{◌∙◌}
 use Rattle.magnetar_hash.proofs.Stream.{sha3-of}
 use Rattle.magnetar_hash.proofs.sha3.sha3_256.Goals as goal
 

@@ -1,5 +1,5 @@
-use Rattle.std.proofs.Common.{◌-◌, ◌≤◌, length, drop, rules}
-use Rattle.magnetar_hash.proofs.Left.{Left, left-all, left_word, left-byte, left_end, left-last}
+use Rattle.std.proofs.Common.{rules}
+use Rattle.magnetar_hash.proofs.Left.{left-all, left_word, left-byte, left_end, left-last}
 use Rattle.magnetar_hash.proofs.sponge.feed.Goals as goal
 
 pub loop-at-init : goal.loop-at-init

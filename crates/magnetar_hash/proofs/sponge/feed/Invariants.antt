@@ -1,5 +1,5 @@
-use Rattle.std.proofs.Common.{◌-◌, ◌≤◌, length, drop, rules}
-use Rattle.magnetar_hash.proofs.Left.{Left, left-all, left_word, left-byte, left_end, left-last}
+use Rattle.std.proofs.Common.{◌-◌, ◌≤◌, length, drop}
+use Rattle.magnetar_hash.proofs.Left.{Left}
 use Rattle.magnetar_hash.proofs.sponge.feed.Given as goal
 
 abbrev pub invariant-loop-at : goal.invariant-loop-at

@@ -1,6 +1,5 @@
 use Rattle.magnetar_keccak.specs.State.{◌⊕◌}
 use Rattle.magnetar_hash.proofs.Lane.{lane-part, lane-full}
-use Rattle.std.proofs.Common.{rules}
 use Rattle.magnetar_hash.proofs.sponge.feed_lane.Goals as goal
 
 pub returns-then-next-lt136 : goal.returns-then-next-lt136

@@ -1,6 +1,5 @@
-use Rattle.std.proofs.Common.{◌-◌, ◌≤◌, length, drop, rules}
-use Rattle.magnetar_hash.specs.Bytes.{word_bytes}
-use Rattle.magnetar_hash.proofs.Left.{Left, left-all, left-words, left-words-end}
+use Rattle.std.proofs.Common.{rules}
+use Rattle.magnetar_hash.proofs.Left.{left-all, left-words, left-words-end}
 use Rattle.magnetar_hash.proofs.sponge.feed_words.Goals as goal
 
 pub loop-i-init : goal.loop-i-init

@@ -1,6 +1,6 @@
-use Rattle.std.proofs.Common.{◌-◌, ◌≤◌, length, drop, rules}
+use Rattle.std.proofs.Common.{◌-◌, ◌≤◌, length, drop}
 use Rattle.magnetar_hash.specs.Bytes.{word_bytes}
-use Rattle.magnetar_hash.proofs.Left.{Left, left-all, left-words, left-words-end}
+use Rattle.magnetar_hash.proofs.Left.{Left}
 use Rattle.magnetar_hash.proofs.sponge.feed_words.Given as goal
 
 abbrev pub invariant-loop-i : goal.invariant-loop-i

@@ -1,4 +1,4 @@
-use Rattle.std.proofs.Common.{ap, ◌∙◌, rules}
+use Rattle.std.proofs.Common.{ap, ◌∙◌}
 use Rattle.magnetar_hash.specs.Sha3.{squeezed}
 use Rattle.magnetar_hash.specs.Sponge.{finished}
 use Rattle.magnetar_hash.proofs.sponge.finish.Goals as goal

@@ -1,7 +1,6 @@
-use Rattle.std.proofs.Common.{◌-◌, ◌≤◌, sym, refl, ◌∙◌, arith, rules}
-use Rattle.magnetar_hash.proofs.Squeeze.{length-squeezed, get-squeezed}
+use Rattle.std.proofs.Common.{◌-◌, ◌≤◌}
 use Rattle.magnetar_hash.specs.Sha3.{squeezed}
-use Rattle.magnetar_keccak.proofs.Written.{Written, written_none, written-more, written_all}
+use Rattle.magnetar_keccak.proofs.Written.{Written}
 use Rattle.magnetar_hash.proofs.sponge.squeeze.Given as goal
 
 abbrev pub invariant-loop-j : goal.invariant-loop-j

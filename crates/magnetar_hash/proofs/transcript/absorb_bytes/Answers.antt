@@ -1,7 +1,6 @@
 use Rattle.magnetar_hash.specs.Bytes.{ascii}
 use Rattle.magnetar_hash.specs.Transcript.{absorbed, absorb_answer}
 use Rattle.magnetar_hash.proofs.Parts.{four-parts}
-use Rattle.std.proofs.Common.{rules}
 use Rattle.magnetar_hash.proofs.transcript.absorb_bytes.Goals as goal
 
 pub returns : goal.returns

@@ -1,4 +1,4 @@
-use Rattle.std.proofs.Common.{rules, eq-eqb, ne_eqb}
+use Rattle.std.proofs.Common.{eq-eqb, ne_eqb}
 use Rattle.magnetar_hash.specs.Transcript.{field_answer, absorb_answer}
 use Rattle.magnetar_hash.proofs.transcript.absorb_field.Goals as goal
 

@@ -1,6 +1,5 @@
 use Rattle.magnetar_hash.specs.Transcript.{absorb_answer}
 use Rattle.magnetar_hash.proofs.Bytes.{one_word}
-use Rattle.std.proofs.Common.{rules}
 use Rattle.magnetar_hash.proofs.transcript.absorb_u64.Goals as goal
 
 pub returns : goal.returns

@@ -1,4 +1,4 @@
-use Rattle.std.proofs.Common.{rules, le-ltb, lt-ltb}
+use Rattle.std.proofs.Common.{le-ltb, lt-ltb}
 use Rattle.magnetar_hash.specs.Transcript.{draw_answer}
 use Rattle.magnetar_hash.proofs.transcript.challenge_field.Goals as goal
 

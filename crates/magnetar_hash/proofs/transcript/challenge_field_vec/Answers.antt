@@ -1,4 +1,4 @@
-use Rattle.std.proofs.Common.{◌≡◌, ◌*◌, true, false, ltb, length, sym, refl, arith, length-take-le, rules, le-ltb, lt-ltb}
+use Rattle.std.proofs.Common.{◌≡◌, ◌*◌, true, false, ltb, length, sym, refl, arith, length-take-le, le-ltb, lt-ltb}
 use Rattle.magnetar_hash.specs.Transcript.{draws_answer, draws_out, draws_code}
 use Rattle.magnetar_hash.proofs.Draws.{vec-done}
 use Rattle.magnetar_hash.proofs.transcript.challenge_field_vec.Goals as goal

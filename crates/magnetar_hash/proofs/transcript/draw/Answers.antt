@@ -1,7 +1,6 @@
 use Rattle.magnetar_hash.specs.Bytes.{ascii, le_bytes}
 use Rattle.magnetar_hash.specs.Transcript.{drawn}
 use Rattle.magnetar_hash.proofs.Parts.{four-parts}
-use Rattle.std.proofs.Common.{rules}
 use Rattle.magnetar_hash.proofs.transcript.draw.Goals as goal
 
 pub returns : goal.returns

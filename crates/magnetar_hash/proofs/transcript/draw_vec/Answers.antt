@@ -1,5 +1,5 @@
-use Rattle.std.proofs.Common.{◌≡◌, ◌-◌, ◌/◌, ◌≤◌, length, refl, ap, arith, length-set, rules}
-use Rattle.magnetar_hash.proofs.Draws.{Draws, draws-none, draws-more, draws-length}
+use Rattle.std.proofs.Common.{◌≡◌, ◌/◌, length, refl, ap, arith, length-set, rules}
+use Rattle.magnetar_hash.proofs.Draws.{draws-none, draws-more, draws-length}
 use Rattle.magnetar_hash.proofs.transcript.draw_vec.Goals as goal
 
 pub loop-i-init : goal.loop-i-init

@@ -1,5 +1,5 @@
-use Rattle.std.proofs.Common.{◌≡◌, ◌-◌, ◌/◌, ◌≤◌, length, refl, ap, arith, length-set, rules}
-use Rattle.magnetar_hash.proofs.Draws.{Draws, draws-none, draws-more, draws-length}
+use Rattle.std.proofs.Common.{◌≡◌, ◌-◌, ◌/◌, ◌≤◌, length}
+use Rattle.magnetar_hash.proofs.Draws.{Draws}
 use Rattle.magnetar_hash.proofs.transcript.draw_vec.Given as goal
 
 abbrev pub invariant-loop-i : goal.invariant-loop-i

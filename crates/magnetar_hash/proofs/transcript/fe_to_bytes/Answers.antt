@@ -1,7 +1,6 @@
-use Rattle.std.proofs.Common.{◌-◌, ◌≤◌, sym, refl, arith, rules}
+use Rattle.std.proofs.Common.{sym, refl, arith, rules}
 use Rattle.magnetar_field.specs.Gf128.{value}
-use Rattle.magnetar_hash.specs.Bytes.{le_bytes}
-use Rattle.magnetar_keccak.proofs.Written.{Written, written_none, written-more, written_all}
+use Rattle.magnetar_keccak.proofs.Written.{written_none, written-more, written_all}
 use Rattle.magnetar_hash.proofs.Bytes.{length-le}
 use Rattle.magnetar_hash.proofs.transcript.fe_to_bytes.Goals as goal
 

@@ -1,8 +1,7 @@
-use Rattle.std.proofs.Common.{◌-◌, ◌≤◌, sym, refl, arith, rules}
+use Rattle.std.proofs.Common.{◌-◌, ◌≤◌}
 use Rattle.magnetar_field.specs.Gf128.{value}
 use Rattle.magnetar_hash.specs.Bytes.{le_bytes}
-use Rattle.magnetar_keccak.proofs.Written.{Written, written_none, written-more, written_all}
-use Rattle.magnetar_hash.proofs.Bytes.{length-le}
+use Rattle.magnetar_keccak.proofs.Written.{Written}
 use Rattle.magnetar_hash.proofs.transcript.fe_to_bytes.Given as goal
 
 abbrev pub invariant-loop-j : goal.invariant-loop-j

@@ -1,4 +1,4 @@
-use Rattle.std.proofs.Common.{[], ◌∷◌, rules}
+use Rattle.std.proofs.Common.{[], ◌∷◌}
 use Rattle.magnetar_hash.proofs.Stream.{fed-join}
 use Rattle.magnetar_hash.proofs.Parts.{parts_join}
 use Rattle.magnetar_hash.proofs.transcript.feed_head.Goals as goal

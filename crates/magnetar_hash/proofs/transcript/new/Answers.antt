@@ -1,4 +1,4 @@
-use Rattle.std.proofs.Common.{sym, ◌∙◌, rules, eqb-true}
+use Rattle.std.proofs.Common.{sym, ◌∙◌, eqb-true}
 use Rattle.magnetar_hash.specs.Transcript.{new_answer}
 use Rattle.magnetar_hash.proofs.transcript.new.Goals as goal
 

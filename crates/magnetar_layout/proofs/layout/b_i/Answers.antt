@@ -2,7 +2,6 @@ use Rattle.magnetar_layout.proofs.Laid.{sound, each-size}
 use mathlib.Core.Path.{sym, ◌∙◌}
 use native.Mathlib.Omega.{arith}
 use Rattle.magnetar_layout.proofs.Readings.{read-refused, read_some, read_none}
-use borrow.Author.Rules.{rules}
 use Rattle.magnetar_layout.proofs.layout.b_i.Goals as goal
 
 pub returns-then-z-ne0 : goal.returns-then-z-ne0

@@ -4,11 +4,9 @@ use Prim.Native.Nat.{ℕ}
 use Rattle.magnetar_layout.proofs.Readings.{build-is}
 use mathlib.Core.Path.{◌≡◌, refl, sym, ◌∙◌}
 use borrow.Author.Tests.{ltb-false}
-use Rattle.magnetar_layout.specs.Tests.{or_refuse}
 use Rattle.magnetar_layout.specs.Entries.{build_refusal}
 use Rattle.magnetar_layout.proofs.FirstRefusal.{note-clear, turned, done}
 use Rattle.magnetar_layout.proofs.Laid.{sound}
-use borrow.Author.Rules.{rules}
 use Rattle.magnetar_layout.proofs.layout.build.Goals as goal
 
 pub returns-then-z-ne0 : goal.returns-then-z-ne0

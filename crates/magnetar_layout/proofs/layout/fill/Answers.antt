@@ -1,12 +1,10 @@
 use mathlib.Core.Path.{◌≡◌, refl, ◌∙◌}
-use mathlib.Core.List.{◌++◌}
-use Prim.Native.Nat.{◌+◌, ◌≤◌, ◌-◌}
 use native.Mathlib.Omega.{arith}
-use lib.ListN.{length, take, drop}
+use lib.ListN.{length}
 use lib.Seq.{take_all}
 use Rattle.magnetar_layout.specs.Layout.{offsets}
 use Rattle.magnetar_field.proofs.Elements.{copy_more}
-use Rattle.magnetar_layout.proofs.Laid.{Laid, each-size, laid-start, laid_more, laid-within, laid-offset, next-most, offsets-length}
+use Rattle.magnetar_layout.proofs.Laid.{each-size, laid-start, laid_more, laid-within, laid-offset, next-most, offsets-length}
 use borrow.Author.Rules.{rules}
 use Rattle.magnetar_layout.proofs.layout.fill.Goals as goal
 

@@ -1,13 +1,9 @@
-use mathlib.Core.Path.{◌≡◌, refl, ◌∙◌}
+use mathlib.Core.Path.{◌≡◌}
 use mathlib.Core.List.{◌++◌}
-use Prim.Native.Nat.{◌+◌, ◌≤◌, ◌-◌}
-use native.Mathlib.Omega.{arith}
+use Prim.Native.Nat.{◌≤◌, ◌-◌}
 use lib.ListN.{length, take, drop}
-use lib.Seq.{take_all}
 use Rattle.magnetar_layout.specs.Layout.{offsets}
-use Rattle.magnetar_field.proofs.Elements.{copy_more}
-use Rattle.magnetar_layout.proofs.Laid.{Laid, each-size, laid-start, laid_more, laid-within, laid-offset, next-most, offsets-length}
-use borrow.Author.Rules.{rules}
+use Rattle.magnetar_layout.proofs.Laid.{Laid}
 use Rattle.magnetar_layout.proofs.layout.fill.Given as goal
 
 abbrev pub invariant-loop-i : goal.invariant-loop-i

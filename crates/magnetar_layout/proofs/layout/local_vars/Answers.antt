@@ -1,6 +1,5 @@
 use native.Mathlib.Omega.{arith}
 use Rattle.magnetar_layout.proofs.Readings.{read-refused, read_some, read_none}
-use borrow.Author.Rules.{rules}
 use Rattle.magnetar_layout.proofs.layout.local_vars.Goals as goal
 
 pub returns-then-z-ne0 : goal.returns-then-z-ne0

@@ -3,7 +3,6 @@ use native.Mathlib.Nat.{div-add-mod'}
 use Prim.Native.Nat.{◌+◌, ◌-◌}
 use mathlib.Core.Path.{refl}
 use Rattle.magnetar_layout.specs.Layout.{next_multiple}
-use borrow.Author.Rules.{rules}
 use Rattle.magnetar_layout.proofs.layout.next_multiple.Goals as goal
 
 pub overflow_mul-result : goal.overflow_mul-result

@@ -1,8 +1,7 @@
-use Rattle.magnetar_layout.proofs.Laid.{Laid, each-size, laid-start, laid_more, laid-within, laid-offset, next-most}
+use Rattle.magnetar_layout.proofs.Laid.{each-size, laid-start, laid_more, laid-within, laid-offset, next-most}
 use mathlib.Core.Path.{◌≡◌, ◌∙◌}
-use Prim.Native.Nat.{◌≤◌, ◌-◌}
 use native.Mathlib.Omega.{arith}
-use Rattle.magnetar_layout.proofs.Laid.{Laid, laid-start, laid_more, laid-within, laid-offset, next-most}
+use Rattle.magnetar_layout.proofs.Laid.{laid-start, laid_more, laid-within, laid-offset, next-most}
 use borrow.Author.Rules.{rules}
 use Rattle.magnetar_layout.proofs.layout.place.Goals as goal
 

@@ -1,9 +1,6 @@
-use Rattle.magnetar_layout.proofs.Laid.{Laid, each-size, laid-start, laid_more, laid-within, laid-offset, next-most}
-use mathlib.Core.Path.{◌≡◌, ◌∙◌}
+use Rattle.magnetar_layout.proofs.Laid.{Laid}
 use Prim.Native.Nat.{◌≤◌, ◌-◌}
-use native.Mathlib.Omega.{arith}
-use Rattle.magnetar_layout.proofs.Laid.{Laid, laid-start, laid_more, laid-within, laid-offset, next-most}
-use borrow.Author.Rules.{rules}
+use Rattle.magnetar_layout.proofs.Laid.{Laid}
 use Rattle.magnetar_layout.proofs.layout.place.Given as goal
 
 abbrev pub invariant-loop-i : goal.invariant-loop-i

@@ -12,7 +12,6 @@ use Rattle.magnetar_layout.specs.Entries.{layout_refusal}
 use Rattle.magnetar_layout.proofs.FirstRefusal.{first-refusal-front, first-refusal-clear}
 use Rattle.magnetar_layout.proofs.SizeLaws.{not-bad}
 use Rattle.magnetar_layout.proofs.Laid.{half-size}
-use borrow.Author.Rules.{rules}
 use Rattle.magnetar_layout.proofs.layout.refusal.Goals as goal
 
 pub returns-then-z-ne0 : goal.returns-then-z-ne0

@@ -4,7 +4,6 @@ use mathlib.Core.Path.{◌≡◌, sym, ◌∙◌}
 use native.Mathlib.Omega.{arith}
 use Rattle.magnetar_layout.proofs.Laid.{sound, Inside, offset-within}
 use Rattle.magnetar_layout.proofs.Readings.{part-refused, part-other, part-missing, part-is}
-use borrow.Author.Rules.{rules}
 use Rattle.magnetar_layout.proofs.layout.segment.Goals as goal
 
 pub returns-then-z-ne0 : goal.returns-then-z-ne0

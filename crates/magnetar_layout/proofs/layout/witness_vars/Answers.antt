@@ -2,7 +2,6 @@ use mathlib.Core.Path.{sym, ◌∙◌}
 use Rattle.magnetar_layout.specs.Tests.{or_refuse}
 use Rattle.magnetar_layout.specs.Entries.{vars_refusal}
 use Rattle.magnetar_layout.proofs.Laid.{half-size}
-use borrow.Author.Rules.{rules}
 use Rattle.magnetar_layout.proofs.layout.witness_vars.Goals as goal
 
 pub returns-then-is_size : goal.returns-then-is_size

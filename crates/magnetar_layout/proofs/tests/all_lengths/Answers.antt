@@ -1,10 +1,6 @@
-use Rattle.magnetar_layout.proofs.EveryLaws.{Left, every_more, every-not, every-end}
+use Rattle.magnetar_layout.proofs.EveryLaws.{every_more, every-not, every-end}
 use mathlib.Core.Path.{refl, sym, ◌∙◌}
-use Prim.Native.Nat.{◌-◌}
 use native.Mathlib.Omega.{arith}
-use lib.ListN.{length}
-use Rattle.magnetar_layout.specs.Layout.{is_length}
-use borrow.Author.Rules.{rules}
 use Rattle.magnetar_layout.proofs.tests.all_lengths.Goals as goal
 
 pub loop-i-init : goal.loop-i-init

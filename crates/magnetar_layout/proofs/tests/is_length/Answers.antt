@@ -2,7 +2,6 @@ use borrow.Author.Tests.{lt-leb, le-leb, lt-ltb}
 use mathlib.Core.Path.{◌≡◌}
 use native.Mathlib.Omega.{arith}
 use Rattle.magnetar_layout.specs.Layout.{is_length}
-use borrow.Author.Rules.{rules}
 use Rattle.magnetar_layout.proofs.tests.is_length.Goals as goal
 
 pub returns-then-n-eq0 : goal.returns-then-n-eq0

@@ -1,6 +1,5 @@
 use borrow.Author.Tests.{lt-leb, le-leb}
 use Rattle.magnetar_layout.specs.Tests.{is_size}
-use borrow.Author.Rules.{rules}
 use Rattle.magnetar_layout.proofs.tests.is_size.Goals as goal
 
 pub returns-then-n-least : goal.returns-then-n-least

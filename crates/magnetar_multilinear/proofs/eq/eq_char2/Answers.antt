@@ -1,6 +1,5 @@
 use mathlib.Core.Path.{◌∙◌}
 use Rattle.magnetar_multilinear.specs.EqTable.{eq_factor}
-use borrow.Author.Rules.{rules}
 use Rattle.magnetar_multilinear.proofs.eq.eq_char2.Goals as goal
 
 pub returns-then-b : goal.returns-then-b

@@ -1,10 +1,7 @@
 use mathlib.Core.Path.{◌≡◌, sym}
-use Prim.Native.Nat.{◌≤◌}
 use native.Mathlib.Omega.{arith}
-use lib.ListN.{drop}
 use Rattle.magnetar_field.specs.Gf128.{value}
 use Rattle.magnetar_field.specs.Words.{elements}
-use Rattle.magnetar_multilinear.specs.EqTable.{eq_at_bits}
 use Rattle.magnetar_field.proofs.Elements.{elements-length}
 use Rattle.magnetar_multilinear.proofs.EqTables.{eq_at_bits-none, eq_at_bits-more}
 use borrow.Author.Rules.{rules}

@@ -1,13 +1,9 @@
-use mathlib.Core.Path.{◌≡◌, sym}
+use mathlib.Core.Path.{◌≡◌}
 use Prim.Native.Nat.{◌≤◌}
-use native.Mathlib.Omega.{arith}
 use lib.ListN.{drop}
 use Rattle.magnetar_field.specs.Gf128.{value}
 use Rattle.magnetar_field.specs.Words.{elements}
 use Rattle.magnetar_multilinear.specs.EqTable.{eq_at_bits}
-use Rattle.magnetar_field.proofs.Elements.{elements-length}
-use Rattle.magnetar_multilinear.proofs.EqTables.{eq_at_bits-none, eq_at_bits-more}
-use borrow.Author.Rules.{rules}
 use Rattle.magnetar_multilinear.proofs.eq.eq_product.Given as goal
 
 abbrev pub invariant-loop-j : goal.invariant-loop-j

@@ -1,6 +1,5 @@
 use native.Mathlib.Omega.{arith}
 use Rattle.magnetar_multilinear.proofs.Refusals.{bits-other, bits_none}
-use borrow.Author.Rules.{rules}
 use Rattle.magnetar_multilinear.proofs.eq.eq_table.Goals as goal
 
 pub returns-then-point-ne0 : goal.returns-then-point-ne0

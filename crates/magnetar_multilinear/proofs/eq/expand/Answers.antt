@@ -2,10 +2,9 @@ use mathlib.Core.Path.{◌≡◌, refl, ap}
 use Prim.Native.Nat.{ℕ, ◌≤◌, ◌*◌, ◌/◌}
 use native.Mathlib.Omega.{arith}
 use lib.ListN.{length}
-use Rattle.magnetar_field.specs.Gf128.{value}
 use Rattle.magnetar_field.specs.Words.{elements}
 use Rattle.magnetar_field.proofs.Elements.{elements-length}
-use Rattle.magnetar_multilinear.proofs.Doublings.{Split, split-none, split-more, split-all}
+use Rattle.magnetar_multilinear.proofs.Doublings.{split-none, split-more, split-all}
 use borrow.Author.Rules.{rules}
 use Rattle.magnetar_multilinear.proofs.eq.expand.Goals as goal
 

@@ -1,10 +1,7 @@
-use mathlib.Core.Path.{◌≡◌, ◌∙◌}
-use Prim.Native.Nat.{ℕ, ◌≤◌, ◌<◌, ◌*◌, ◌^◌}
+use mathlib.Core.Path.{◌∙◌}
 use native.Mathlib.Omega.{arith}
-use lib.ListN.{length, get_or}
-use Rattle.magnetar_field.specs.Words.{elements}
 use Rattle.magnetar_field.proofs.Elements.{elements-length, elements-below}
-use Rattle.magnetar_multilinear.proofs.Evaluating.{Evaluating, evaluating-start, evaluating-more, evaluating-end, evaluating-fits}
+use Rattle.magnetar_multilinear.proofs.Evaluating.{evaluating-start, evaluating-more, evaluating-end, evaluating-fits}
 use borrow.Author.Rules.{rules}
 use Rattle.magnetar_multilinear.proofs.multilinear.bind_all.Goals as goal
 

@@ -1,11 +1,8 @@
-use mathlib.Core.Path.{◌≡◌, ◌∙◌}
+use mathlib.Core.Path.{◌≡◌}
 use Prim.Native.Nat.{ℕ, ◌≤◌, ◌<◌, ◌*◌, ◌^◌}
-use native.Mathlib.Omega.{arith}
 use lib.ListN.{length, get_or}
 use Rattle.magnetar_field.specs.Words.{elements}
-use Rattle.magnetar_field.proofs.Elements.{elements-length, elements-below}
-use Rattle.magnetar_multilinear.proofs.Evaluating.{Evaluating, evaluating-start, evaluating-more, evaluating-end, evaluating-fits}
-use borrow.Author.Rules.{rules}
+use Rattle.magnetar_multilinear.proofs.Evaluating.{Evaluating}
 use Rattle.magnetar_multilinear.proofs.multilinear.bind_all.Given as goal
 
 abbrev pub invariant-loop-j : goal.invariant-loop-j

@@ -1,6 +1,5 @@
 use Rattle.magnetar_multilinear.specs.Multilinear.{line}
 use Rattle.magnetar_field.proofs.Elements.{elements-stored}
-use borrow.Author.Rules.{rules}
 use Rattle.magnetar_multilinear.proofs.multilinear.bind_entry.Goals as goal
 
 pub returns : goal.returns

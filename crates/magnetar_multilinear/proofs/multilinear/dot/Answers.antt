@@ -1,13 +1,9 @@
 use mathlib.Core.Path.{◌≡◌, sym}
-use Prim.Native.Nat.{◌≤◌, ◌/◌}
 use native.Mathlib.Omega.{arith}
-use lib.ListN.{drop, length}
 use Rattle.magnetar_field.specs.Gf128.{value}
 use Rattle.magnetar_field.specs.Words.{elements}
-use Rattle.magnetar_multilinear.specs.Multilinear.{dot}
 use Rattle.magnetar_field.proofs.Elements.{elements-length}
 use Rattle.magnetar_multilinear.proofs.Dots.{dot-none, dot-more}
-use borrow.Author.Rules.{rules}
 use Rattle.magnetar_multilinear.proofs.multilinear.dot.Goals as goal
 
 pub loop-j-init : goal.loop-j-init

@@ -2,7 +2,6 @@ use mathlib.Core.Path.{◌≡◌, ◌∙◌}
 use native.Mathlib.Omega.{arith}
 use lib.ListN.{length}
 use Rattle.magnetar_field.proofs.Elements.{overlaid-same}
-use borrow.Author.Rules.{rules}
 use Rattle.magnetar_multilinear.proofs.multilinear.eval_in.Goals as goal
 
 pub returns : goal.returns

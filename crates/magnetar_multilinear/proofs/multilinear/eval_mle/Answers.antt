@@ -4,7 +4,6 @@ use Prim.Native.Nat.{ℕ}
 use native.Mathlib.Omega.{arith}
 use lib.ListN.{length, length-take, drop}
 use Rattle.magnetar_multilinear.proofs.Refusals.{mle-odd, mle-long, mle-other, mle-short, mle-none}
-use borrow.Author.Rules.{rules}
 use Rattle.magnetar_multilinear.proofs.multilinear.eval_mle.Goals as goal
 
 pub returns-then-point-ne0 : goal.returns-then-point-ne0

@@ -1,6 +1,5 @@
 use native.Mathlib.Omega.{arith}
 use Rattle.magnetar_multilinear.proofs.Bound.{place-le}
-use borrow.Author.Rules.{rules}
 use Rattle.magnetar_multilinear.proofs.multilinear.insert_zero.Goals as goal
 
 pub overflow_mul-result-2 : goal.overflow_mul-result-2

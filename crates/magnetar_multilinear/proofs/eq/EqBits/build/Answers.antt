@@ -7,7 +7,6 @@ use lib.Seq.{length-take-le}
 use Rattle.magnetar_field.specs.Words.{elements, words}
 use Rattle.magnetar_field.proofs.Elements.{words-elements}
 use Rattle.magnetar_multilinear.proofs.Refusals.{eq-odd, eq-long, eq-short, eq-none}
-use borrow.Author.Rules.{rules}
 use Rattle.magnetar_multilinear.proofs.eq.EqBits.build.Goals as goal
 
 pub returns-then-point-ne0 : goal.returns-then-point-ne0
