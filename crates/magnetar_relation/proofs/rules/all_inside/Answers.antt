@@ -16,7 +16,7 @@ pub loop-i-preserved : goal.loop-i-preserved
 loop-i-preserved c =
     let least-all : let x = c.args in
     c.least-n.result ≡ held x.row.now x.col.now x.lo.now x.hi.now =
-        rw (c.least-n.ensures.0, c.least-2.ensures.0, c.least.ensures.0) in
+    rw (c.least-n.ensures.0, c.least-2.ensures.0, c.least.ensures.0) in
     let x = c.args in
     let l = c.loop-i in
     let n = least-all in
@@ -27,7 +27,7 @@ pub returns : goal.returns
 returns c =
     let least-all : let x = c.args in
     c.least-n.result ≡ held x.row.now x.col.now x.lo.now x.hi.now =
-        rw (c.least-n.ensures.0, c.least-2.ensures.0, c.least.ensures.0) in
+    rw (c.least-n.ensures.0, c.least-2.ensures.0, c.least.ensures.0) in
     let x = c.args in
     told-end (lies_at x.s) _ x.row.now x.col.now x.lo.now x.hi.now c.loop-i.i c.loop-i.acc
     (omega (arith, least-all)) c.loop-i.invariant
