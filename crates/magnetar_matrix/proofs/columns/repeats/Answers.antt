@@ -1,10 +1,6 @@
-use mathlib.Core.Path.{◌≡◌, sym, ap, ◌∙◌}
-use mathlib.Core.Bool.{Bool, true, false}
-use Prim.Native.Nat.{ℕ, ◌*◌, ◌-◌, ◌≤◌}
+use mathlib.Core.Path.{◌≡◌, sym}
 use native.Mathlib.Numerals.{add-one}
 use native.Mathlib.Omega.{arith}
-use lib.ListN.{length}
-use Rattle.magnetar_matrix.specs.Table.{agree, repeated}
 use Rattle.magnetar_matrix.proofs.PublicParts.{agree-start, agree-more, repeated-some, repeated-short, repeated-not}
 use borrow.Author.Rules.{rules}
 use Rattle.magnetar_matrix.proofs.columns.repeats.Goals as goal

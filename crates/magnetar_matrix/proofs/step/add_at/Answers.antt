@@ -1,5 +1,4 @@
 use Rattle.magnetar_matrix.specs.Table.{added_in}
-use borrow.Author.Rules.{rules}
 use Rattle.magnetar_matrix.proofs.step.add_at.Goals as goal
 
 pub returns : goal.returns

@@ -3,7 +3,6 @@ use native.Mathlib.Omega.{arith}
 use lib.Seq.{set_out}
 use Rattle.magnetar_field.specs.Gf128.{◌⊕◌}
 use Rattle.magnetar_matrix.specs.Table.{added_at}
-use borrow.Author.Rules.{rules}
 use Rattle.magnetar_matrix.proofs.step.add_word.Goals as goal
 
 pub returns-then-k-out : goal.returns-then-k-out

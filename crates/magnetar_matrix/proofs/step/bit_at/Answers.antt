@@ -8,12 +8,12 @@ use Rattle.magnetar_matrix.proofs.step.bit_at.Goals as goal
 pub returns-then-k-login : goal.returns-then-k-login
 unfolding packed_bit
 returns-then-k-login c = record {
-      value = refl;
-      upper_bound = omega arith;
-    }
+  value = refl;
+  upper_bound = omega arith;
+}
 
 pub returns : goal.returns
 returns c = record {
-      value = bit-missing _ _ (omega arith);
-      upper_bound = search rules;
-    }
+  value = bit-missing _ _ (omega arith);
+  upper_bound = search rules;
+}

@@ -1,5 +1,4 @@
 use mathlib.Core.Path.{refl, sym}
-use borrow.Author.Rules.{rules}
 use Rattle.magnetar_matrix.proofs.Digits.{shift_past}
 use Rattle.magnetar_matrix.proofs.step.shifted.Goals as goal
 

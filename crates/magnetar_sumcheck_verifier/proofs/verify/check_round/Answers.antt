@@ -1,6 +1,5 @@
 use mathlib.Core.Path.{sym, ◌∙◌}
 use Rattle.magnetar_field.specs.Gf128.{value}
-use borrow.Author.Rules.{rules}
 use Rattle.magnetar_sumcheck_verifier.proofs.Wanted.{check-refused, check-made}
 use Rattle.magnetar_sumcheck_verifier.proofs.verify.check_round.Goals as goal
 

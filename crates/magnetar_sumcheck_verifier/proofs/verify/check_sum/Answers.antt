@@ -3,8 +3,7 @@ use native.Mathlib.Omega.{arith}
 use Rattle.magnetar_field.specs.Gf128.{value}
 use Rattle.magnetar_field.specs.Words.{elements}
 use Rattle.magnetar_field.proofs.Elements.{elements-length}
-use Rattle.magnetar_sumcheck_verifier.proofs.Horner.{Summed, summed-start, summed-more, summed-end}
-use borrow.Author.Rules.{rules}
+use Rattle.magnetar_sumcheck_verifier.proofs.Horner.{summed-start, summed-more, summed-end}
 use Rattle.magnetar_sumcheck_verifier.proofs.verify.check_sum.Goals as goal
 
 pub loop-i-init : goal.loop-i-init

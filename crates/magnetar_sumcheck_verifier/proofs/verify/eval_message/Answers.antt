@@ -3,8 +3,7 @@ use native.Mathlib.Omega.{arith}
 use Rattle.magnetar_field.specs.Gf128.{value}
 use Rattle.magnetar_field.specs.Words.{elements}
 use Rattle.magnetar_field.proofs.Elements.{elements-length}
-use Rattle.magnetar_sumcheck_verifier.proofs.Horner.{Evaluated, evaluated-start, evaluated-more, evaluated-end}
-use borrow.Author.Rules.{rules}
+use Rattle.magnetar_sumcheck_verifier.proofs.Horner.{evaluated-start, evaluated-more, evaluated-end}
 use Rattle.magnetar_sumcheck_verifier.proofs.verify.eval_message.Goals as goal
 
 pub loop-i-init : goal.loop-i-init

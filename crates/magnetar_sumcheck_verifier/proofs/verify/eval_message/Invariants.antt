@@ -1,10 +1,6 @@
-use mathlib.Core.Path.{sym}
-use native.Mathlib.Omega.{arith}
 use Rattle.magnetar_field.specs.Gf128.{value}
 use Rattle.magnetar_field.specs.Words.{elements}
-use Rattle.magnetar_field.proofs.Elements.{elements-length}
-use Rattle.magnetar_sumcheck_verifier.proofs.Horner.{Evaluated, evaluated-start, evaluated-more, evaluated-end}
-use borrow.Author.Rules.{rules}
+use Rattle.magnetar_sumcheck_verifier.proofs.Horner.{Evaluated}
 use Rattle.magnetar_sumcheck_verifier.proofs.verify.eval_message.Given as goal
 
 abbrev pub invariant-loop-i : goal.invariant-loop-i

@@ -1,5 +1,4 @@
 use Rattle.magnetar_sumcheck_verifier.specs.Inner.{inner_end}
-use borrow.Author.Rules.{rules}
 use Rattle.magnetar_sumcheck_verifier.proofs.verify.inner_finish.Goals as goal
 
 pub returns : goal.returns

@@ -1,4 +1,3 @@
-use borrow.Author.Rules.{rules}
 use Rattle.magnetar_sumcheck_verifier.proofs.Wanted.{odd-none, even-half}
 use Rattle.magnetar_sumcheck_verifier.proofs.verify.is_message.Goals as goal
 

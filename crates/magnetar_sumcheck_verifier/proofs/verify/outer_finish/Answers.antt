@@ -1,7 +1,6 @@
 use Rattle.magnetar_field.specs.Gf128.{value, ◌⊗◌}
 use Rattle.magnetar_field.proofs.Xor.{⊕-comm}
 use Rattle.magnetar_sumcheck_verifier.specs.Outer.{outer_end}
-use borrow.Author.Rules.{rules}
 use Rattle.magnetar_sumcheck_verifier.proofs.verify.outer_finish.Goals as goal
 
 pub returns : goal.returns

@@ -1,6 +1,5 @@
 use Rattle.magnetar_field.specs.Gf128.{value}
 use Rattle.magnetar_sumcheck_verifier.specs.Outcome.{left_by}
-use borrow.Author.Rules.{rules}
 use Rattle.magnetar_sumcheck_verifier.proofs.Wanted.{external-right, external-wrong}
 use Rattle.magnetar_sumcheck_verifier.proofs.verify.round_external.Goals as goal
 

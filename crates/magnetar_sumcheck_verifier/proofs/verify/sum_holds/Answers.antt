@@ -1,5 +1,4 @@
 use Rattle.magnetar_sumcheck_verifier.specs.Round.{holds}
-use borrow.Author.Rules.{rules}
 use Rattle.magnetar_sumcheck_verifier.proofs.verify.sum_holds.Goals as goal
 
 pub returns : goal.returns
