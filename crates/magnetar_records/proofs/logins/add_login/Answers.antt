@@ -4,21 +4,18 @@ use Rattle.magnetar_matrix.specs.Matrix.{share}
 use Rattle.magnetar_relation.specs.Steps.{login_z}
 use Rattle.magnetar_matrix.proofs.Blocks.{product-fits}
 use Rattle.magnetar_field.proofs.Product.{⊗-comm}
-use borrow.Author.Rules.{rules}
 use Rattle.magnetar_records.proofs.logins.add_login.Goals as goal
 
 pub overflow_mul-at : goal.overflow_mul-at
 overflow_mul-at c =
     let small : c.args.u * c.args.n ≤ 536870912 =
-        let s = c in
-        product-fits s.args.u s.args.n (omega (arith, s.requires.0)) (omega (arith, s.requires.2)) in
+    product-fits c.args.u c.args.n (omega (arith, c.requires.0)) (omega (arith, c.requires.2)) in
     omega (arith, small)
 
 pub overflow_add-at : goal.overflow_add-at
 overflow_add-at c =
     let small : c.args.u * c.args.n ≤ 536870912 =
-        let s = c in
-        product-fits s.args.u s.args.n (omega (arith, s.requires.0)) (omega (arith, s.requires.2)) in
+    product-fits c.args.u c.args.n (omega (arith, c.requires.0)) (omega (arith, c.requires.2)) in
     omega (arith, small, c.requires.3)
 
 pub returns : goal.returns

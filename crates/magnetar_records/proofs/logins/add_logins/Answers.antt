@@ -1,7 +1,6 @@
 use mathlib.Core.Path.{sym, ◌∙◌}
 use Rattle.magnetar_records.specs.LoginSteps.{added_logins}
 use Rattle.magnetar_records.proofs.LoginLaws.{reach}
-use borrow.Author.Rules.{rules}
 use Rattle.magnetar_records.proofs.logins.add_logins.Goals as goal
 
 pub each_login-requires : goal.each_login-requires

@@ -3,7 +3,6 @@ use native.Mathlib.Omega.{arith}
 use Rattle.magnetar_records.specs.LoginSteps.{cleared_blocks}
 use Rattle.magnetar_records.proofs.LoginLaws.{reach}
 use Rattle.magnetar_matrix.proofs.Blocks.{product-fits}
-use borrow.Author.Rules.{rules}
 use Rattle.magnetar_records.proofs.logins.clear_blocks.Goals as goal
 
 pub overflow_mul-q : goal.overflow_mul-q

@@ -13,8 +13,7 @@ use Rattle.magnetar_records.proofs.logins.each_login.Goals as goal
 
 pub overflow_mul-k : goal.overflow_mul-k
 overflow_mul-k c =
-    let s = c in
-    omega (arith, product-fits s.args.q s.args.n s.requires.0 (omega (arith, s.requires.2)))
+    omega (arith, product-fits c.args.q c.args.n c.requires.0 (omega (arith, c.requires.2)))
 
 pub loop-u-init : goal.loop-u-init
 loop-u-init c = (refl, refl, omega arith, blocks-none _ _ _ _ _)
@@ -26,7 +25,6 @@ loop-u-preserved c =
 
 pub returns : goal.returns
 returns c =
-    let last : c.loop-u.u ≡ c.args.q =
-        let h = c.loop-u.invariant.2 in omega (arith, h) in
+    let last : c.loop-u.u ≡ c.args.q = omega (arith, c.loop-u.invariant.2) in
     let l = c.loop-u in
     l.invariant.3 ∙ rw (last)

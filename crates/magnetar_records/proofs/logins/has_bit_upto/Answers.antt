@@ -1,4 +1,3 @@
-use borrow.Author.Rules.{rules}
 use Rattle.magnetar_records.proofs.logins.has_bit_upto.Goals as goal
 
 pub returns-then-is_bit : goal.returns-then-is_bit

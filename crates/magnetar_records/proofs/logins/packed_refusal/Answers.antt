@@ -10,46 +10,39 @@ use Rattle.magnetar_r1cs.specs.Entries.{logins_tests}
 use Rattle.magnetar_r1cs.proofs.Lone.{Logins, logins-clear}
 use Rattle.magnetar_records.proofs.RecordLaws.{note-same}
 use Rattle.magnetar_records.specs.LoginSteps.{packed_output_tests}
-use borrow.Author.Rules.{rules}
 use Rattle.magnetar_records.proofs.logins.packed_refusal.Goals as goal
 
 pub returns-then-z-ne0 : goal.returns-then-z-ne0
 returns-then-z-ne0 c =
-    let first : Tests =
-        let x = c.args in logins_tests x.p x.x x.q x.w x.rows in
+    let x = c.args in
+    let first : Tests = logins_tests x.p x.x x.q x.w x.rows in
     let second : Tests =
-        let x = c.args in
-        matrix_column_tests (2 * x.w) x.cols ++ count_tests x.n x.n x.n x.n ++ (7, not x.inside) ∷ [] ++ packed_output_tests x.q x.rows x.out in
-    let s = c in first-refusal-front (first) (second) _ c.logins_refusal-z.ensures c.if-z-ne0.true
+    matrix_column_tests (2 * x.w) x.cols ++ count_tests x.n x.n x.n x.n ++ (7, not x.inside) ∷ [] ++ packed_output_tests x.q x.rows x.out in
+    first-refusal-front first second _ c.logins_refusal-z.ensures c.if-z-ne0.true
 
 pub overflow_mul-w : goal.overflow_mul-w
 overflow_mul-w c =
-    let passed : let x = c.args in Logins x.p x.x x.q x.w x.rows =
-        logins-clear _ _ _ _ _ (sym c.logins_refusal-z.ensures ∙ c.if-z-ne0.false) in
-    omega (arith, (passed).half)
+    let x = c.args in
+    let passed = logins-clear x.p x.x x.q x.w x.rows (sym c.logins_refusal-z.ensures ∙ c.if-z-ne0.false) in
+    omega (arith, passed.half)
 
 pub overflow_mul-rows : goal.overflow_mul-rows
 overflow_mul-rows c =
-    let passed : let x = c.args in Logins x.p x.x x.q x.w x.rows =
-        logins-clear _ _ _ _ _ (sym c.logins_refusal-z.ensures ∙ c.if-z-ne0.false) in
-    omega (arith, (passed).rows.high)
+    let x = c.args in
+    let passed = logins-clear x.p x.x x.q x.w x.rows (sym c.logins_refusal-z.ensures ∙ c.if-z-ne0.false) in
+    omega (arith, passed.rows.high)
 
 pub overflow_mul-q : goal.overflow_mul-q
 overflow_mul-q c =
-    let passed : let x = c.args in Logins x.p x.x x.q x.w x.rows =
-        logins-clear _ _ _ _ _ (sym c.logins_refusal-z.ensures ∙ c.if-z-ne0.false) in
-    let k = passed in
     let x = c.args in
-    omega (arith, product-fits x.q (2 * x.rows) k.logins.high (omega (arith, k.rows.high)))
+    let passed = logins-clear x.p x.x x.q x.w x.rows (sym c.logins_refusal-z.ensures ∙ c.if-z-ne0.false) in
+    omega (arith, product-fits x.q (2 * x.rows) passed.logins.high (omega (arith, passed.rows.high)))
 
 pub returns : goal.returns
 returns c =
-    let first : Tests =
-        let x = c.args in logins_tests x.p x.x x.q x.w x.rows in
+    let x = c.args in
+    let first : Tests = logins_tests x.p x.x x.q x.w x.rows in
     let second : Tests =
-        let x = c.args in
-        matrix_column_tests (2 * x.w) x.cols ++ count_tests x.n x.n x.n x.n ++ (7, not x.inside) ∷ [] ++ packed_output_tests x.q x.rows x.out in
-    let d = c in
-    let s = c in
-    first-refusal-late (first) (second) _ _ d.logins_refusal-z.ensures d.if-z-ne0.false
+    matrix_column_tests (2 * x.w) x.cols ++ count_tests x.n x.n x.n x.n ++ (7, not x.inside) ∷ [] ++ packed_output_tests x.q x.rows x.out in
+    first-refusal-late first second _ _ c.logins_refusal-z.ensures c.if-z-ne0.false
     (rw (c.refuse.ensures, c.refuse-z-3.ensures, c.refuse-z-2.ensures, c.refuse-z.ensures, note-same, note-same, note-same))

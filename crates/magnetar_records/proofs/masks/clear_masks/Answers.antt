@@ -3,7 +3,6 @@ use native.Mathlib.Omega.{arith}
 use Rattle.magnetar_matrix.proofs.Blocks.{product-fits}
 use Rattle.magnetar_records.specs.MaskSteps.{cleared_masks}
 use Rattle.magnetar_records.proofs.LoginLaws.{reach}
-use borrow.Author.Rules.{rules}
 use Rattle.magnetar_records.proofs.masks.clear_masks.Goals as goal
 
 pub overflow_mul-d : goal.overflow_mul-d

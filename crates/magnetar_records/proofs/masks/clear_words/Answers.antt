@@ -4,7 +4,6 @@ use lib.Seq.{length-take-le}
 use lib.ListN.{length}
 use borrow.Author.Tests.{lt-leb}
 use Rattle.magnetar_records.proofs.MaskLaws.{words-cleared}
-use borrow.Author.Rules.{rules}
 use Rattle.magnetar_records.proofs.masks.clear_words.Goals as goal
 
 pub slice_bounds-clear-end-then-k-out : goal.slice_bounds-clear-end-then-k-out

@@ -14,13 +14,11 @@ loop-low-init c = (refl, omega arith, flipped-none _ _ _ _)
 
 pub overflow_mul-at : goal.overflow_mul-at
 overflow_mul-at c =
-    let s = c in
-    omega (arith, product-fits c.loop-low.low s.args.n (omega (arith, s.requires.0)) (omega (arith, s.requires.2)))
+    omega (arith, product-fits c.loop-low.low c.args.n (omega (arith, c.requires.0)) (omega (arith, c.requires.2)))
 
 pub overflow_add-at : goal.overflow_add-at
 overflow_add-at c =
-    let s = c in
-    omega (arith, product-fits c.loop-low.low s.args.n (omega (arith, s.requires.0)) (omega (arith, s.requires.2)), s.requires.2, s.requires.3)
+    omega (arith, product-fits c.loop-low.low c.args.n (omega (arith, c.requires.0)) (omega (arith, c.requires.2)), c.requires.2, c.requires.3)
 
 pub loop-low-preserved : goal.loop-low-preserved
 loop-low-preserved c =
@@ -29,6 +27,5 @@ loop-low-preserved c =
 
 pub returns : goal.returns
 returns c =
-    let last : c.loop-low.low ≡ c.args.d =
-        let h = c.loop-low.invariant.1 in omega (arith, h) in
+    let last : c.loop-low.low ≡ c.args.d = omega (arith, c.loop-low.invariant.1) in
     c.loop-low.invariant.2 ∙ rw (last)

@@ -8,7 +8,6 @@ use Rattle.magnetar_r1cs.specs.Flips.{flip}
 use Rattle.magnetar_r1cs.proofs.Flipped.{login-below}
 use Rattle.magnetar_records.specs.Records.{entry_of}
 use Rattle.magnetar_records.proofs.MaskLaws.{sum-none, sum_one}
-use borrow.Author.Rules.{rules}
 use Rattle.magnetar_records.proofs.masks.each_place.Goals as goal
 
 -- a login of the batch
@@ -20,18 +19,15 @@ loop-t-init c = (omega arith, sum-none _)
 
 pub overflow_mul-u : goal.overflow_mul-u
 overflow_mul-u c =
-    let s = c in
-    omega (arith, below c.loop-t.t s.args.d s.args.low s.args.c (omega arith) s.requires.1 s.requires.3)
+    omega (arith, below c.loop-t.t c.args.d c.args.low c.args.c (omega arith) c.requires.1 c.requires.3)
 
 pub overflow_add-u : goal.overflow_add-u
 overflow_add-u c =
-    let s = c in
-    omega (arith, below c.loop-t.t s.args.d s.args.low s.args.c (omega arith) s.requires.1 s.requires.3)
+    omega (arith, below c.loop-t.t c.args.d c.args.low c.args.c (omega arith) c.requires.1 c.requires.3)
 
 pub flip_of-acc-requires : goal.flip_of-acc-requires
 flip_of-acc-requires c =
-    let s = c in
-    (below c.loop-t.t s.args.d s.args.low s.args.c (omega arith) s.requires.1 s.requires.3, s.requires.0, omega (arith, s.requires.2))
+    (below c.loop-t.t c.args.d c.args.low c.args.c (omega arith) c.requires.1 c.requires.3, c.requires.0, omega (arith, c.requires.2))
 
 pub loop-t-preserved : goal.loop-t-preserved
 unfolding ◌⊕◌
@@ -41,6 +37,5 @@ loop-t-preserved c =
 
 pub returns : goal.returns
 returns c =
-    let last : c.loop-t.t ≡ c.args.c =
-        let h = c.loop-t.invariant.0 in omega (arith, h) in
+    let last : c.loop-t.t ≡ c.args.c = omega (arith, c.loop-t.invariant.0) in
     c.loop-t.invariant.1 ∙ rw (last)

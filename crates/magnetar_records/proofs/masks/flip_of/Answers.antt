@@ -2,7 +2,6 @@ use mathlib.Core.Path.{◌∙◌}
 use native.Mathlib.Omega.{arith}
 use Rattle.magnetar_matrix.specs.Packed.{login_part}
 use Rattle.magnetar_r1cs.proofs.Flipped.{flip-none, flip-bit, flip_one, flip-entry}
-use borrow.Author.Rules.{rules}
 use Rattle.magnetar_records.proofs.masks.flip_of.Goals as goal
 
 pub returns-then-e-eq0 : goal.returns-then-e-eq0

@@ -1,7 +1,6 @@
 use mathlib.Core.Path.{sym, ◌∙◌}
 use Rattle.magnetar_records.specs.MaskSteps.{flipped_in}
 use Rattle.magnetar_records.proofs.LoginLaws.{reach}
-use borrow.Author.Rules.{rules}
 use Rattle.magnetar_records.proofs.masks.flip_record.Goals as goal
 
 pub each_low-requires : goal.each_low-requires

@@ -3,7 +3,6 @@ use mathlib.Core.Path.{◌≡◌}
 use Prim.Native.Nat.{◌-◌, ◌<◌}
 use Rattle.magnetar_field.specs.Sizes.{log₂}
 use Rattle.magnetar_field.proofs.Log2.{log₂-lt, power-is}
-use borrow.Author.Rules.{rules}
 use Rattle.magnetar_records.proofs.masks.lows.Goals as goal
 
 pub returns-then-v-s : goal.returns-then-v-s

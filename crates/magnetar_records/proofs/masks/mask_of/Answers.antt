@@ -7,13 +7,11 @@ use Rattle.magnetar_records.proofs.masks.mask_of.Goals as goal
 
 pub overflow_mul-c : goal.overflow_mul-c
 overflow_mul-c c =
-    let s = c in
-    omega (arith, product-fits s.args.c s.args.d (omega arith) (omega (arith, s.requires.2)))
+    omega (arith, product-fits c.args.c c.args.d (omega arith) (omega (arith, c.requires.2)))
 
 pub each_place-requires : goal.each_place-requires
 each_place-requires c =
-    let s = c in
-    (s.requires.0, s.requires.1, omega arith, omega arith)
+    (c.requires.0, c.requires.1, omega arith, omega arith)
 
 pub returns-then-c-d-le4096 : goal.returns-then-c-d-le4096
 unfolding flips

@@ -88,6 +88,6 @@ returns c =
     let middle : c.refuse-z-4.result ≡ first_refusal 0 (second x.w x.q x.p x.rows) = cc in
     let rest = third x.w x.q x.rows x.cols x.n x.inside x.bits x.v x.out in
     let late : c.last_tests.result ≡ first_refusal 0 rest =
-        c.last_tests.ensures ∙ rw (c.refuse-z-7.ensures, c.refuse-z-6.ensures, c.refuse-z-5.ensures, note-same, note-same, note-same) in
+    c.last_tests.ensures ∙ rw (c.refuse-z-7.ensures, c.refuse-z-6.ensures, c.refuse-z-5.ensures, note-same, note-same, note-same) in
     first-refusal-late (first x.w x.q) (second x.w x.q x.p x.rows ++ rest) _ _ early c.if-z-ne0.false
     (first-refusal-late (second x.w x.q x.p x.rows) rest _ _ middle c.if-z-ne0-2.false late)

@@ -2,7 +2,6 @@ use native.Mathlib.Omega.{arith}
 use borrow.Author.Tests.{le-leb, lt-leb}
 use Rattle.magnetar_field.proofs.Log2.{power-is}
 use Rattle.magnetar_records.specs.MaskSteps.{places}
-use borrow.Author.Rules.{rules}
 use Rattle.magnetar_records.proofs.masks.places_of.Goals as goal
 
 pub returns-then-v-le6 : goal.returns-then-v-le6

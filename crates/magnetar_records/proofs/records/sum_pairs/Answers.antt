@@ -11,8 +11,7 @@ loop-i-init c = (refl, zero-⊕ _)
 pub loop-i-preserved : goal.loop-i-preserved
 loop-i-preserved c =
     let more = left_more c.args.es.now c.loop-i.i c.loop-i-test.true in
-    let said = rw c.loop-i.invariant.0 at c.add_pair-acc.ensures.0 in
-    (
+    let said = rw c.loop-i.invariant.0 at c.add_pair-acc.ensures.0 in (
       c.add_pair-acc.ensures.1 ∙ c.loop-i.invariant.0,
       summed-more (pair_share c.args.n c.args.m c.args.s.now) _ _ _ _ _ said (rw more at c.loop-i.invariant.1),
     )

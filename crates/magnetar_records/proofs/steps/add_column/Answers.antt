@@ -1,7 +1,6 @@
 use mathlib.Core.Path.{refl}
 use Rattle.magnetar_matrix.specs.Matrix.{share}
 use Rattle.magnetar_relation.specs.Steps.{between}
-use borrow.Author.Rules.{rules}
 use Rattle.magnetar_records.proofs.steps.add_column.Goals as goal
 
 pub returns : goal.returns

@@ -1,5 +1,4 @@
 use Rattle.magnetar_matrix.specs.Matrix.{share}
-use borrow.Author.Rules.{rules}
 use Rattle.magnetar_records.proofs.steps.add_share.Goals as goal
 
 pub returns : goal.returns

@@ -3,7 +3,6 @@ use native.Mathlib.Omega.{arith}
 use Rattle.magnetar_layout.proofs.FirstRefusal.{first-refusal-front, first-refusal-late, first-refusal-clear}
 use Rattle.magnetar_layout.proofs.SizeLaws.{not-bad}
 use Rattle.magnetar_records.specs.Steps.{lone_of, apply_tests}
-use borrow.Author.Rules.{rules}
 use Rattle.magnetar_records.proofs.steps.apply_refusal.Goals as goal
 
 pub returns-then-n-ne0 : goal.returns-then-n-ne0

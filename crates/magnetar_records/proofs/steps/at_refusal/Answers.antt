@@ -4,7 +4,6 @@ use Rattle.magnetar_layout.proofs.FirstRefusal.{first-refusal-front, first-refus
 use Rattle.magnetar_layout.proofs.SizeLaws.{not-bad}
 use Rattle.magnetar_r1cs.proofs.Points.{log-most}
 use Rattle.magnetar_records.specs.Steps.{lone_of, at_tests}
-use borrow.Author.Rules.{rules}
 use Rattle.magnetar_records.proofs.steps.at_refusal.Goals as goal
 
 pub returns-then-n-ne0 : goal.returns-then-n-ne0
@@ -47,6 +46,5 @@ overflow_mul-rows c =
 pub returns : goal.returns
 returns c =
     let x = c.args in
-    let d = c in
-    first-refusal-late (lone_of x.rows x.cols x.n x.inside) (at_tests x.rows x.cols x.r x.c x.s) _ _ d.lone-n.ensures
-    d.if-n-ne0.false (rw (c.refuse.ensures, c.refuse-n-2.ensures, c.log2-2.ensures.0, c.refuse-n.ensures, d.log2.ensures.0))
+    first-refusal-late (lone_of x.rows x.cols x.n x.inside) (at_tests x.rows x.cols x.r x.c x.s) _ _ c.lone-n.ensures
+    c.if-n-ne0.false (rw (c.refuse.ensures, c.refuse-n-2.ensures, c.log2-2.ensures.0, c.refuse-n.ensures, c.log2.ensures.0))

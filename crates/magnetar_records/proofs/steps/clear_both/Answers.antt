@@ -1,7 +1,6 @@
 use Prim.Native.Nat.{◌+◌}
 use native.Mathlib.Omega.{arith}
 use Rattle.magnetar_relation.proofs.StepLaws.{cleared-none}
-use borrow.Author.Rules.{rules}
 use Rattle.magnetar_records.proofs.steps.clear_both.Goals as goal
 
 pub returns-else-m-k : goal.returns-else-m-k

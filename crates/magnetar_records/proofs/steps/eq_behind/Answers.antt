@@ -1,6 +1,5 @@
 use native.Mathlib.Omega.{arith}
 use Rattle.magnetar_relation.proofs.StepLaws.{behind-some, behind-none}
-use borrow.Author.Rules.{rules}
 use Rattle.magnetar_records.proofs.steps.eq_behind.Goals as goal
 
 pub returns-then-n-s : goal.returns-then-n-s

@@ -1,4 +1,3 @@
-use borrow.Author.Rules.{rules}
 use Rattle.magnetar_records.proofs.steps.has_bit.Goals as goal
 
 pub returns-then-acc : goal.returns-then-acc

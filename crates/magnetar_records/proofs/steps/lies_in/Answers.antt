@@ -1,5 +1,4 @@
 use borrow.Author.Tests.{lt-ltb, le-ltb}
-use borrow.Author.Rules.{rules}
 use Rattle.magnetar_records.proofs.steps.lies_in.Goals as goal
 
 pub returns-then-e-rows : goal.returns-then-e-rows

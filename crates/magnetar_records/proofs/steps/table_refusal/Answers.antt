@@ -4,7 +4,6 @@ use Rattle.magnetar_layout.proofs.FirstRefusal.{first-refusal-front, first-refus
 use Rattle.magnetar_layout.proofs.SizeLaws.{not-bad}
 use Rattle.magnetar_r1cs.proofs.Points.{log-most}
 use Rattle.magnetar_records.specs.Steps.{lone_of, table_tests}
-use borrow.Author.Rules.{rules}
 use Rattle.magnetar_records.proofs.steps.table_refusal.Goals as goal
 
 pub returns-then-n-ne0 : goal.returns-then-n-ne0
