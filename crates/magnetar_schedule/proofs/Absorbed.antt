@@ -13,7 +13,6 @@ use Rattle.magnetar_hash.specs.Bytes.{ascii}
 use Rattle.magnetar_matrix.specs.Batch.{Relation}
 use Rattle.magnetar_theory.specs.Absorbed.{absorbed_count}
 use Rattle.magnetar_protocol.specs.Shape.{log_logins, log_bin, log_fld, log_cols, before_terminals, before_inner, before_end, proof_elements}
-use Rattle.magnetar_protocol.specs.Draws.{draw_count}
 use Rattle.magnetar_schedule.specs.Schedule.{Event, absorb, draw, numbered, rounds, singles, schedule, absorbed_until, InOrder}
 use Rattle.magnetar_protocol.specs.Soundness.{absorbed_before}
 use Rattle.magnetar_schedule.proofs.Counts.{draws_in, draws_in-replicate, draws_in-rounds, draws_in-singles}

@@ -7,14 +7,10 @@ use mathlib.Core.List.{List, [], ◌∷◌, ◌++◌, append_assoc}
 use Prim.Native.Nat.{ℕ, zero, suc, ◌+◌, ◌*◌, ◌/◌, ◌<◌}
 use native.Mathlib.Omega.{arith}
 use lib.Dec.{eqb, lit<}
-use lib.ListN.{length, drop}
+use lib.ListN.{length}
 use borrow.Author.Tests.{ne_eqb}
-use Rattle.magnetar_field.specs.Gf128.{◌⊕◌, ◌⊗◌}
-use Rattle.magnetar_multilinear.specs.EqTable.{eq_at}
-use Rattle.magnetar_multilinear.specs.Multilinear.{mle}
 use Rattle.magnetar_matrix.specs.Batch.{Relation, PublicColumns, public_folded}
-use Rattle.magnetar_layout.specs.Layout.{local_vars, suffix}
-use Rattle.magnetar_protocol.specs.Shape.{log_logins, sizes_only, after_taus, after_inner}
+use Rattle.magnetar_protocol.specs.Shape.{log_logins, sizes_only, after_taus}
 use Rattle.magnetar_protocol.specs.Proof.{bin_messages, fld_messages, value_z, segment_values}
 use Rattle.magnetar_protocol.specs.Draws.{Draws, draws_of, login_point, low_point, top_element}
 use Rattle.magnetar_schedule.specs.Schedule.{schedule}

@@ -43,7 +43,7 @@ use Rattle.magnetar_protocol.proofs.HonestParts.{outer-count}
 use Rattle.magnetar_protocol.proofs.HonestBelow.{elements-of, both, tabulate-below}
 use Rattle.magnetar_schedule.proofs.StepLaws.{folds, messages-append, binds}
 use Rattle.magnetar_schedule.proofs.Bindings.{binds-left, left-a, left-b, left-c, segment-is, folded-elements, half-elements}
-use Rattle.magnetar_schedule.proofs.Stepwise.{shared, tau-bin-length, tau-fld-length, shared-length, row-bin-length, row-fld-length, alpha-length, left_of, bin_at_start, fld_at_start, ends-bin, ends-fld, outer_sent, inner_of, inner-of-length, last_sent, proving-sent, plays-the-same, outer-parts, parts, parts_are}
+use Rattle.magnetar_schedule.proofs.Stepwise.{tau-bin-length, tau-fld-length, shared-length, row-bin-length, row-fld-length, alpha-length, left_of, bin_at_start, fld_at_start, ends-bin, ends-fld, outer_sent, inner_of, inner-of-length, last_sent, proving-sent, plays-the-same, outer-parts, parts, parts_are}
 use Rattle.magnetar_schedule.proofs.ProverDraws.{drawn-only, prover-claims}
 
 -- ---- the products are elements

@@ -1,8 +1,7 @@
 -- The prover's run step by step (specs/Stepwise) over a relation and a batch. Its draws, words and transcript are those of specs/RealRun
 -- (proofs/ProverRun), which does not need it.
 -- Assumes nothing.
-use mathlib.Core.List.{List}
-use Prim.Native.Nat.{ℕ, ◌/◌}
+use Prim.Native.Nat.{◌/◌}
 use Rattle.magnetar_hash.specs.declared.transcript.Transcript.{Transcript}
 use Rattle.magnetar_matrix.specs.Batch.{Relation, Batch, PublicColumns, folded, public_folded}
 use Rattle.magnetar_protocol.specs.Draws.{Draws, draws_of, login_point}

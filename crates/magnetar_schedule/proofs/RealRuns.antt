@@ -2,21 +2,20 @@
 -- Assumes nothing.
 use mathlib.Core.Path.{◌≡◌, sym, ap, ◌∙◌, subst}
 use mathlib.Core.List.{List}
-use mathlib.Core.Logic.{◌⊎◌}
 use Prim.Native.Nat.{ℕ, ◌+◌, ◌*◌, ◌≤◌, max}
 use lib.ListN.{length, take}
 use lib.Seq.{take-length}
 use Rattle.magnetar_hash.specs.declared.transcript.Transcript.{Transcript}
 use Rattle.magnetar_matrix.specs.Batch.{Relation, Batch, PublicColumns}
 use Rattle.magnetar_theory.specs.Count.{natural_sum}
-use Rattle.magnetar_protocol.specs.Shape.{log_logins, log_bin, log_fld, log_cols, proof_elements}
+use Rattle.magnetar_protocol.specs.Shape.{log_logins, log_bin, log_fld, log_cols}
 use Rattle.magnetar_schedule.specs.Schedule.{Event, schedule}
 use Rattle.magnetar_schedule.specs.ScheduleRun.{run_from}
 use Rattle.magnetar_protocol.specs.Run.{verdict, claims, ClaimsTrue}
-use Rattle.magnetar_protocol.specs.RunSizes.{SizedRelation, SizedBatch, Elements}
-use Rattle.magnetar_protocol.specs.Soundness.{bad_draws, absorbed_before, BadDraw}
+use Rattle.magnetar_protocol.specs.RunSizes.{SizedRelation}
+use Rattle.magnetar_protocol.specs.Soundness.{bad_draws, absorbed_before}
 use Rattle.magnetar_protocol.specs.Prover.{prover_claims, CompleteRun}
-use Rattle.magnetar_schedule.specs.RealRun.{verifier_draws, verifier_transcript, prover_draws, prover_transcript, sent_proof, Agrees}
+use Rattle.magnetar_schedule.specs.RealRun.{verifier_draws, verifier_transcript, prover_draws, prover_transcript, sent_proof}
 use Rattle.magnetar_protocol.proofs.Soundness.{soundness, all-lists}
 use Rattle.magnetar_protocol.proofs.Completeness.{completeness}
 use Rattle.magnetar_schedule.proofs.Counts.{verifier-count, verifier-elements}

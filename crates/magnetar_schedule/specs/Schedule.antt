@@ -5,7 +5,6 @@
 use Rattle.std.specs.Prelude.{◌≡◌, cond, List, [], ◌∷◌, ◌++◌, ℕ, zero, suc, ◌+◌, ◌*◌, ◌/◌, ◌%◌, ltb, length, replicate}
 use Prim.Native.String.{String}
 use Rattle.magnetar_hash.specs.Bytes.{ascii}
-use Rattle.magnetar_matrix.specs.Matrix.{Matrix}
 use Rattle.magnetar_matrix.specs.Batch.{Relation}
 use Rattle.magnetar_protocol.specs.Shape.{log_logins, log_bin, log_fld, log_cols, before_terminals, before_inner, before_end}
 

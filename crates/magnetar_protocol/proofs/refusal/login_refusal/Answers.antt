@@ -1,4 +1,3 @@
-use borrow.Author.Rules.{rules}
 use Rattle.magnetar_protocol.proofs.refusal.login_refusal.Goals as goal
 
 pub returns : goal.returns

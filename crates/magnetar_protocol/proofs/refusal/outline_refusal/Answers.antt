@@ -1,4 +1,3 @@
-use borrow.Author.Rules.{rules}
 use Rattle.magnetar_protocol.proofs.Guards.{outline-size, outline-layout}
 use Rattle.magnetar_protocol.proofs.refusal.outline_refusal.Goals as goal
 
@@ -9,6 +8,5 @@ returns-then-z-ne0 c =
 
 pub returns : goal.returns
 returns c =
-    let i = c in
-    let x = i.args in
-    outline-layout x.m x.q x.rb x.rf x.lens.now _ _ i.size_refusal-z.ensures i.if-z-ne0.false c.refusal.ensures
+    let x = c.args in
+    outline-layout x.m x.q x.rb x.rf x.lens.now _ _ c.size_refusal-z.ensures c.if-z-ne0.false c.refusal.ensures

@@ -2,7 +2,6 @@ use mathlib.Core.List.{◌++◌}
 use Rattle.magnetar_layout.specs.Tests.{size_tests, rows_tests}
 use Rattle.magnetar_layout.proofs.FirstRefusal.{first-refusal-front, first-refusal-late}
 use Rattle.magnetar_protocol.proofs.Guards.{logins-given}
-use borrow.Author.Rules.{rules}
 use Rattle.magnetar_protocol.proofs.refusal.size_refusal.Goals as goal
 
 pub returns-then-z-ne0 : goal.returns-then-z-ne0
@@ -18,7 +17,6 @@ rows_refusal-requires c = let x = c.args in (logins-given x.m x.q _ c.login_refu
 
 pub returns : goal.returns
 returns c =
-    let e = c in
-    let x = e.args in
-    first-refusal-late (size_tests x.m x.q) (rows_tests x.q x.rb ++ rows_tests x.q x.rf) _ _ e.login_refusal-z.ensures e.if-z-ne0.false
+    let x = c.args in
+    first-refusal-late (size_tests x.m x.q) (rows_tests x.q x.rb ++ rows_tests x.q x.rf) _ _ c.login_refusal-z.ensures c.if-z-ne0.false
     (rw (c.rows_refusal.ensures, c.rows_refusal-z.ensures))

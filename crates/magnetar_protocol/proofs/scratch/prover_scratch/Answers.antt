@@ -1,4 +1,3 @@
-use borrow.Author.Rules.{rules}
 use Rattle.magnetar_protocol.proofs.Guards.{counts-given, prover-refused, prover-given}
 use Rattle.magnetar_protocol.proofs.scratch.prover_scratch.Goals as goal
 

@@ -1,4 +1,3 @@
-use borrow.Author.Rules.{rules}
 use Rattle.magnetar_protocol.proofs.scratch.prover_words.Goals as goal
 
 pub returns : goal.returns

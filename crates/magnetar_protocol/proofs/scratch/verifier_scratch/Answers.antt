@@ -1,4 +1,3 @@
-use borrow.Author.Rules.{rules}
 use Rattle.magnetar_protocol.proofs.Guards.{counts-given, verifier-refused, verifier-given}
 use Rattle.magnetar_protocol.proofs.scratch.verifier_scratch.Goals as goal
 
