@@ -1,6 +1,5 @@
 use native.Mathlib.Omega.{arith}
 use lib.Pow.{pow-lt}
-use borrow.Author.Rules.{rules}
 use Rattle.magnetar_sumcheck_prover.proofs.engine.high.Goals as goal
 
 pub overflow_add-result : goal.overflow_add-result

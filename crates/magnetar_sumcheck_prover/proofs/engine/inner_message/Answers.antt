@@ -5,7 +5,6 @@ use lib.ListN.{length}
 use borrow.Author.Tests.{ne_eqb}
 use Rattle.magnetar_sumcheck_prover.proofs.Message.{inner_out_lem}
 use Rattle.magnetar_sumcheck_prover.proofs.Refusals.{inner-fits, inner-small}
-use borrow.Author.Rules.{rules}
 use Rattle.magnetar_sumcheck_prover.proofs.engine.inner_message.Goals as goal
 
 pub returns-then-r-ne0 : goal.returns-then-r-ne0

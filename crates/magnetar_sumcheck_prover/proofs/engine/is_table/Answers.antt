@@ -1,7 +1,6 @@
 use Prim.Native.Nat.{◌%◌}
 use Rattle.magnetar_sumcheck_prover.specs.Entries.{is_table}
 use borrow.Author.Tests.{ne_eqb, eq-eqb}
-use borrow.Author.Rules.{rules}
 use Rattle.magnetar_sumcheck_prover.proofs.engine.is_table.Goals as goal
 
 pub returns-then-words-ne0 : goal.returns-then-words-ne0

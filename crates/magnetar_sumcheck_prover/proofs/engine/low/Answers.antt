@@ -1,6 +1,5 @@
 use native.Mathlib.Omega.{arith}
 use Rattle.magnetar_sumcheck_prover.proofs.Steps.{shifted-le, low-is}
-use borrow.Author.Rules.{rules}
 use Rattle.magnetar_sumcheck_prover.proofs.engine.low.Goals as goal
 
 pub overflow_mul-result : goal.overflow_mul-result

@@ -6,7 +6,6 @@ use borrow.Author.Tests.{ne_eqb}
 use Rattle.magnetar_field.specs.Gf128.{value}
 use Rattle.magnetar_sumcheck_prover.proofs.Message.{outer-out}
 use Rattle.magnetar_sumcheck_prover.proofs.Refusals.{outer-fits, outer-small}
-use borrow.Author.Rules.{rules}
 use Rattle.magnetar_sumcheck_prover.proofs.engine.outer_message.Goals as goal
 
 pub returns-then-z-ne0 : goal.returns-then-z-ne0

@@ -1,6 +1,5 @@
 use Rattle.magnetar_sumcheck_prover.specs.Entries.{outer_refusal}
 use borrow.Author.Tests.{ne_eqb, eq-eqb, lt-ltb, le-ltb}
-use borrow.Author.Rules.{rules}
 use Rattle.magnetar_sumcheck_prover.proofs.engine.outer_refusal.Goals as goal
 
 pub returns-then-not-is_table : goal.returns-then-not-is_table

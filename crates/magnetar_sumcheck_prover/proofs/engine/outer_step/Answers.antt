@@ -1,6 +1,5 @@
 use Rattle.magnetar_field.specs.Words.{elements}
 use Rattle.magnetar_sumcheck_prover.proofs.Steps.{outer-more}
-use borrow.Author.Rules.{rules}
 use Rattle.magnetar_sumcheck_prover.proofs.engine.outer_step.Goals as goal
 
 pub returns : goal.returns

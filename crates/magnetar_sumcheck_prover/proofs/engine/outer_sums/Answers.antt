@@ -1,8 +1,6 @@
 use Rattle.magnetar_sumcheck_verifier.specs.Sum as Sum
 use Rattle.magnetar_sumcheck_verifier.specs.Outer as Outer
 use Rattle.magnetar_sumcheck_prover.proofs.Steps.{at-end}
-use mathlib.Core.Path.{◌≡◌}
-use Prim.Native.Nat.{◌≤◌, ◌-◌}
 use native.Mathlib.Omega.{arith}
 use Rattle.magnetar_field.specs.Words.{elements}
 use Rattle.magnetar_sumcheck_prover.specs.Sums.{sums, outer_sums}

@@ -1,12 +1,7 @@
-use Rattle.magnetar_sumcheck_verifier.specs.Sum as Sum
-use Rattle.magnetar_sumcheck_verifier.specs.Outer as Outer
-use Rattle.magnetar_sumcheck_prover.proofs.Steps.{at-end}
 use mathlib.Core.Path.{◌≡◌}
 use Prim.Native.Nat.{◌≤◌, ◌-◌}
-use native.Mathlib.Omega.{arith}
 use Rattle.magnetar_field.specs.Words.{elements}
 use Rattle.magnetar_sumcheck_prover.specs.Sums.{sums, outer_sums}
-use borrow.Author.Rules.{rules}
 use Rattle.magnetar_sumcheck_prover.proofs.engine.outer_sums.Given as goal
 
 abbrev pub invariant-loop-i : goal.invariant-loop-i

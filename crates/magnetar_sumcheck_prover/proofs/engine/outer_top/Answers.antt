@@ -1,5 +1,4 @@
 use mathlib.Core.Path.{◌∙◌}
-use borrow.Author.Rules.{rules}
 use Rattle.magnetar_sumcheck_prover.proofs.engine.outer_top.Goals as goal
 
 pub returns : goal.returns

@@ -1,6 +1,5 @@
 use Rattle.magnetar_field.specs.Gf128.{value}
 use Rattle.magnetar_sumcheck_prover.proofs.Message.{put_four}
-use borrow.Author.Rules.{rules}
 use Rattle.magnetar_sumcheck_prover.proofs.engine.put_four.Goals as goal
 
 pub returns : goal.returns

@@ -1,6 +1,5 @@
 use Rattle.magnetar_sumcheck_verifier.specs.Outer.{times_eq}
 use Rattle.magnetar_sumcheck_prover.proofs.Message.{times_eq-first, times_eq-next}
-use borrow.Author.Rules.{rules}
 use Rattle.magnetar_sumcheck_prover.proofs.engine.put_outer.Goals as goal
 
 pub returns : goal.returns

@@ -1,12 +1,12 @@
-use mathlib.Core.Path.{◌≡◌, refl}
-use Prim.Native.Nat.{◌≤◌, ◌-◌, ℕ}
+use mathlib.Core.Path.{refl}
+use Prim.Native.Nat.{ℕ}
 use native.Mathlib.Omega.{arith}
-use lib.ListN.{length, drop}
+use lib.ListN.{drop}
 use mathlib.Core.List.{◌++◌}
 use Rattle.magnetar_field.specs.Words.{elements}
 use Rattle.magnetar_field.specs.Tabulate.{tabulate}
 use Rattle.magnetar_field.proofs.Elements.{elements-length}
-use Rattle.magnetar_field.proofs.Making.{Made, made_none}
+use Rattle.magnetar_field.proofs.Making.{made_none}
 use Rattle.magnetar_sumcheck_verifier.specs.Order.{slope}
 use Rattle.magnetar_sumcheck_prover.proofs.EqFactor.{dropped-more}
 use Rattle.magnetar_sumcheck_prover.proofs.Steps.{at-end}

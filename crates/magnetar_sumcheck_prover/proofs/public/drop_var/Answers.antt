@@ -5,7 +5,6 @@ use lib.ListN.{length}
 use Rattle.magnetar_sumcheck_prover.specs.Entries.{drop_refusal}
 use Rattle.magnetar_sumcheck_prover.proofs.Refusals.{table-small}
 use Rattle.magnetar_sumcheck_prover.proofs.EqFactor.{drop-out}
-use borrow.Author.Rules.{rules}
 use Rattle.magnetar_sumcheck_prover.proofs.public.drop_var.Goals as goal
 
 pub returns-then-not-is_table : goal.returns-then-not-is_table

@@ -1,4 +1,3 @@
-use borrow.Author.Rules.{rules}
 use Rattle.magnetar_sumcheck_prover.proofs.public.eq_factor.Goals as goal
 
 pub returns : goal.returns

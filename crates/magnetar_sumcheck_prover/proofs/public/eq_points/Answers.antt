@@ -3,7 +3,6 @@ use native.Mathlib.Omega.{arith}
 use lib.ListN.{length}
 use borrow.Author.Tests.{ne_eqb}
 use Rattle.magnetar_sumcheck_prover.proofs.Refusals.{points-fit}
-use borrow.Author.Rules.{rules}
 use Rattle.magnetar_sumcheck_prover.proofs.public.eq_points.Goals as goal
 
 pub returns-then-z-ne0 : goal.returns-then-z-ne0

@@ -1,6 +1,5 @@
 use borrow.Author.Tests.{lt-ltb, le-ltb}
 use Rattle.magnetar_sumcheck_verifier.specs.Order.{place_of}
-use borrow.Author.Rules.{rules}
 use Rattle.magnetar_sumcheck_prover.proofs.public.place.Goals as goal
 
 pub returns-then-j-n : goal.returns-then-j-n
