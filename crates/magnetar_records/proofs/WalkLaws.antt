@@ -1,8 +1,8 @@
 -- Walks over the records of one matrix of six: what they leave is what the definitions say of the part of the entries that is the matrix's.
 -- Assumes nothing.
 use mathlib.Core.Path.{◌≡◌, refl, sym, ap, ◌∙◌}
-use mathlib.Core.Bool.{Bool, true, false, cond, ◌&&◌}
-use mathlib.Core.List.{List, [], ◌∷◌, map}
+use mathlib.Core.Bool.{Bool, true, false, ◌&&◌}
+use mathlib.Core.List.{List, [], ◌∷◌}
 use Prim.Native.Nat.{ℕ, suc, ◌+◌, ◌-◌, ◌≤◌}
 use native.Mathlib.Omega.{arith}
 use lib.Dec.{ltb, leb}
@@ -20,7 +20,7 @@ use Rattle.magnetar_relation.specs.EntryWalks.{lies_at, every_from, fold_entries
 use Rattle.magnetar_relation.proofs.RuleLaws.{rules-told-over}
 use Rattle.magnetar_relation.proofs.ToldLaws.{within-is}
 use Rattle.magnetar_records.specs.declared.records.Entry.{Entry}
-use Rattle.magnetar_records.specs.Records.{entry_of, entries_of_records}
+use Rattle.magnetar_records.specs.Records.{entries_of_records}
 use Rattle.magnetar_records.specs.LoginSteps.{cleared_blocks, added_logins, products_in}
 
 -- as many entries as records

@@ -1,14 +1,10 @@
-use mathlib.Core.Path.{◌≡◌, refl, ◌∙◌}
-use native.Mathlib.Omega.{arith}
+use mathlib.Core.Path.{◌≡◌}
 use Prim.Native.Nat.{◌-◌, ◌*◌, ◌≤◌}
 use lib.ListN.{length}
 use Rattle.magnetar_matrix.specs.Matrix.{share}
-use Rattle.magnetar_matrix.proofs.Blocks.{product-fits}
 use Rattle.magnetar_records.specs.Records.{entry_of}
 use Rattle.magnetar_relation.specs.Steps.{login_z}
 use Rattle.magnetar_records.specs.LoginSteps.{added_blocks}
-use Rattle.magnetar_records.proofs.LoginLaws.{blocks-none, blocks-one}
-use borrow.Author.Rules.{rules}
 use Rattle.magnetar_records.proofs.logins.each_login.Given as goal
 
 abbrev pub invariant-loop-u : goal.invariant-loop-u

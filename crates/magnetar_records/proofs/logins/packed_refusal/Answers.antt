@@ -1,4 +1,4 @@
-use mathlib.Core.Path.{◌≡◌, sym, ◌∙◌}
+use mathlib.Core.Path.{sym, ◌∙◌}
 use mathlib.Core.Bool.{not}
 use mathlib.Core.List.{[], ◌∷◌, ◌++◌}
 use Prim.Native.Nat.{◌*◌}
@@ -7,7 +7,7 @@ use Rattle.magnetar_layout.specs.Tests.{Tests, matrix_column_tests, count_tests}
 use Rattle.magnetar_layout.proofs.FirstRefusal.{first-refusal-front, first-refusal-late}
 use Rattle.magnetar_matrix.proofs.Blocks.{product-fits}
 use Rattle.magnetar_r1cs.specs.Entries.{logins_tests}
-use Rattle.magnetar_r1cs.proofs.Lone.{Logins, logins-clear}
+use Rattle.magnetar_r1cs.proofs.Lone.{logins-clear}
 use Rattle.magnetar_records.proofs.RecordLaws.{note-same}
 use Rattle.magnetar_records.specs.LoginSteps.{packed_output_tests}
 use Rattle.magnetar_records.proofs.logins.packed_refusal.Goals as goal

@@ -1,10 +1,6 @@
 use mathlib.Core.Path.{◌≡◌, refl, ◌∙◌}
 use native.Mathlib.Omega.{arith}
-use Prim.Native.Nat.{◌-◌, ◌≤◌}
-use lib.ListN.{length}
 use Rattle.magnetar_matrix.proofs.Blocks.{product-fits}
-use Rattle.magnetar_records.specs.Records.{entry_of}
-use Rattle.magnetar_records.specs.MaskSteps.{flips, flipped}
 use Rattle.magnetar_records.proofs.MaskLaws.{flipped-none, flipped-one}
 use borrow.Author.Rules.{rules}
 use Rattle.magnetar_records.proofs.masks.each_low.Goals as goal

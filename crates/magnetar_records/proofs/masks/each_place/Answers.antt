@@ -1,12 +1,8 @@
 use mathlib.Core.Path.{◌≡◌, refl, ap, ◌∙◌}
 use native.Mathlib.Omega.{arith}
-use Prim.Native.Nat.{ℕ, ◌+◌, ◌-◌, ◌*◌, ◌≤◌, ◌<◌}
+use Prim.Native.Nat.{ℕ, ◌+◌, ◌*◌, ◌≤◌, ◌<◌}
 use Rattle.magnetar_field.specs.Gf128.{◌⊕◌}
-use Rattle.magnetar_matrix.specs.Packed.{login_part}
-use Rattle.magnetar_matrix.specs.Sum.{sum_below}
-use Rattle.magnetar_r1cs.specs.Flips.{flip}
 use Rattle.magnetar_r1cs.proofs.Flipped.{login-below}
-use Rattle.magnetar_records.specs.Records.{entry_of}
 use Rattle.magnetar_records.proofs.MaskLaws.{sum-none, sum_one}
 use Rattle.magnetar_records.proofs.masks.each_place.Goals as goal
 

@@ -1,14 +1,9 @@
-use mathlib.Core.Path.{◌≡◌, refl, ap, ◌∙◌}
-use native.Mathlib.Omega.{arith}
-use Prim.Native.Nat.{ℕ, ◌+◌, ◌-◌, ◌*◌, ◌≤◌, ◌<◌}
-use Rattle.magnetar_field.specs.Gf128.{◌⊕◌}
+use mathlib.Core.Path.{◌≡◌}
+use Prim.Native.Nat.{◌+◌, ◌-◌, ◌*◌, ◌≤◌}
 use Rattle.magnetar_matrix.specs.Packed.{login_part}
 use Rattle.magnetar_matrix.specs.Sum.{sum_below}
 use Rattle.magnetar_r1cs.specs.Flips.{flip}
-use Rattle.magnetar_r1cs.proofs.Flipped.{login-below}
 use Rattle.magnetar_records.specs.Records.{entry_of}
-use Rattle.magnetar_records.proofs.MaskLaws.{sum-none, sum_one}
-use borrow.Author.Rules.{rules}
 use Rattle.magnetar_records.proofs.masks.each_place.Given as goal
 
 abbrev pub invariant-loop-t : goal.invariant-loop-t
