@@ -4,20 +4,20 @@
 set -euo pipefail
 release=$(cd "${1:?the first word is ORACLE}" && pwd)/target/release
 cd "$(dirname "${BASH_SOURCE[0]}")/.."
-rt staticlib magnetar_c >/dev/null
+(cd crates/magnetar_c && rt lib) >/dev/null
 mkdir -p target/bench
 export RAYON_NUM_THREADS=1
 
 # linked NAME [WORDS..]: bench/NAME/NAME.rs, to target/bench/NAME
 linked() {
     rustc --edition 2021 -C opt-level=3 -C target-feature=+pclmulqdq,+sse4.1 -o "target/bench/$1" "bench/$1/$1.rs" "${@:2}" \
-        --extern magnetar_field="$release/libmagnetar_field.rlib" -L dependency="$release/deps" -L native=target/staticlib
+        --extern magnetar_field="$release/libmagnetar_field.rlib" -L dependency="$release/deps" -L native=crates/magnetar_c/out
 }
 
 # wrapped NAME [WORDS..]: the same over the Rust crate of bindings/, with the Rust's ends
 wrapped() {
     rustc --edition 2021 -C opt-level=3 --crate-type rlib --crate-name magnetar -o target/bench/libmagnetar.rlib bindings/rust/src/lib.rs \
-        -L native=target/staticlib
+        -L native=crates/magnetar_c/out
     linked "$1" --extern magnetar=target/bench/libmagnetar.rlib --extern magnetar_hash="$release/libmagnetar_hash.rlib" \
         --extern magnetar_spartan="$release/libmagnetar_spartan.rlib" "${@:2}"
 }

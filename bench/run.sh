@@ -5,8 +5,8 @@
 # The figures are written down in docs/PERFORMANCE.md.
 set -euo pipefail
 cd "$(dirname "$0")/.."
-rt check magnetar_vectors >/dev/null
+(cd crates/magnetar_vectors && rt run </dev/null) >/dev/null
 crates=${CRATES:-$(dirname "$(dpkg -L librust-sha3-dev | grep -m1 '/sha3-[0-9.]*$')")}
 cargo build --quiet --release --offline --manifest-path bench/Cargo.toml --target-dir target/bench \
     --config "source.crates-io.replace-with='debian'" --config "source.debian.directory='$crates'"
-target/bench/release/bench target/bin/magnetar_vectors
+target/bench/release/bench crates/magnetar_vectors/out/magnetar_vectors

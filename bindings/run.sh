@@ -3,11 +3,11 @@
 # each language write example.stdout and vault.stdout, and each verifies what the other proved. Needs rt, cc and cargo.
 set -euo pipefail
 cd "$(dirname "$0")/.."
-rt staticlib magnetar_c >/dev/null
+(cd crates/magnetar_c && rt lib) >/dev/null
 out=target/bindings
 mkdir -p "$out"
 for name in example vault; do
-    cc -std=c11 -Wall -Wextra -Werror -O2 -Ibindings -o "$out/${name}_c" "bindings/$name.c" target/staticlib/libmagnetar_c.a
+    cc -std=c11 -Wall -Wextra -Werror -O2 -Ibindings -o "$out/${name}_c" "bindings/$name.c" crates/magnetar_c/out/libmagnetar_c.a
     cargo build --quiet --release --offline --manifest-path bindings/rust/Cargo.toml --target-dir "$out" --example "$name"
     ln -sf "release/examples/$name" "$out/${name}_rust"
 done

@@ -2,44 +2,48 @@
 # Shows that the comparison finds faults: each one is put into a copy of the sources, and has to be found within a minute.
 #   compare/fault.sh ORACLE [NAME..]      all faults, or the named ones
 # The prover refuses such a source, and only what is proved is built. So the test programs are compiled from the faulty copy without
-# proof, as `rt try` does it: by the kit's rattle-cases, with a compiler that also keeps the optimized object. The comparison then runs
-# with these programs. Needs what compare/run.sh needs and has built, and python3.
+# proof, by `rt try` of a copy of the kit whose compiler also keeps the code optimized and without the checks of a try. The comparison
+# then runs with these programs. Needs what compare/run.sh needs and has built, and python3.
 set -euo pipefail
 oracle=$(cd "${1:?usage: fault.sh ORACLE [NAME..]}" && pwd)
 shift
 wanted=("$@")
 cd "$(dirname "$0")/.."
-[ -f target/staticlib/libmagnetar_c.a ] || rt staticlib magnetar_c >/dev/null
-compare/build.sh "$oracle" target/staticlib target/compare
-kit=${RATTLE_HOME:-$(dirname "$(dirname "$(readlink -f "$(command -v rt)")")")}
-own=$kit/on/$(uname -m)
+[ -f crates/magnetar_c/out/libmagnetar_c.a ] || (cd crates/magnetar_c && rt lib) >/dev/null
+compare/build.sh "$oracle" crates/magnetar_c/out target/compare
+kit=$(dirname "$(dirname "$(readlink -f "$(command -v rt)")")")
 copy=$(mktemp -d)
 trap 'rm -rf "$copy"' EXIT
-mkdir "$copy/bin"
-: >"$copy/nothing"
+mkdir -p "$copy/bin" "$copy/kit/bin"
 
-# the toolchain with a compiler that keeps the object of -O3
-cp -rs "$own/toolchain" "$copy/toolchain"
-rm "$copy/toolchain/bin/clang"
-cat >"$copy/toolchain/bin/clang" <<C
+# the kit with a compiler that keeps the object of -O3
+ln -s "$kit"/* "$copy/kit" 2>/dev/null || true
+rm -f "$copy/kit/toolchain"
+ln -s "$kit"/bin/* "$copy/kit/bin"
+cp --remove-destination "$kit/bin/rt" "$kit/bin/rtlib.py" "$copy/kit/bin"
+cp -rs "$kit/toolchain" "$copy/kit/toolchain"
+rm "$copy/kit/toolchain/bin/clang"
+cat >"$copy/kit/toolchain/bin/clang" <<C
 #!/usr/bin/env bash
-"$own/toolchain/bin/clang" "\$@" || exit
-case " \$* " in *" -O3 "*) cp module.o "$copy/module.o" ;; esac
+case " \$* " in
+    *" -fsanitize=address "*)
+        words=()
+        for word in "\$@"; do
+            case "\$word" in -fsanitize=*) ;; -O0) words+=(-O3) ;; *) words+=("\$word") ;; esac
+        done
+        "$kit/toolchain/bin/clang" "\${words[@]}" && cp module.o "$copy/module.o"
+        ;;
+esac
+exec "$kit/toolchain/bin/clang" "\$@"
 C
-chmod +x "$copy/toolchain/bin/clang"
+chmod +x "$copy/kit/toolchain/bin/clang"
 
 # compiled PROGRAM: from the sources of the copy
 compiled() {
-    local words=() crate
-    for crate in "$copy"/crates/*/; do
-        crate=$(basename "$crate")
-        if [ -f "$copy/crates/$crate/src/lib.rt" ]; then words+=(--lib "$crate=$copy/crates/$crate/src/lib.rt"); fi
-    done
     rm -f "$copy/module.o"
-    for crate in std io libc; do words+=(--lib "$crate=$kit/libs/$crate/src/lib.rt"); done
-    "$own/bin/rattle-cases" --toolchain "$copy/toolchain" --stdin "$copy/nothing" --stdout "$copy/nothing" \
-        "$copy/crates/$1/src/main.rt" --crate-name "$1" "${words[@]}" >"$copy/said" 2>&1 || { cat "$copy/said"; exit 1; }
-    "$own/bin/rattle-link" --target x86_64-unknown-linux-gnu --toolchain "$own/toolchain" -o "$copy/bin/$1" "$copy/module.o" 2>/dev/null
+    (cd "$copy/crates/$1" && "$copy/kit/bin/rt" try </dev/null) >"$copy/said" 2>&1 || { cat "$copy/said"; exit 1; }
+    "$kit/bin/rattle-link" --target x86_64-unknown-linux-gnu --toolchain "$kit/toolchain" -o "$copy/bin/$1" "$copy/module.o" \
+        "$kit/c/libos_c.a" "$kit/c/liblibc_c.a" >/dev/null 2>&1
 }
 
 compared() {
@@ -50,7 +54,7 @@ compared() {
 fresh() {
     rm -rf "$copy/crates" "$copy/said"
     rm -f "$copy"/bin/*
-    cp -R crates "$copy/crates"
+    tar c --exclude=out crates crates.txt | tar x -C "$copy"
 }
 
 # fault NAME FILE OLD NEW: one line of a copy changed

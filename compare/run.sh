@@ -9,7 +9,11 @@ set -euo pipefail
 oracle=$(cd "${1:?usage: run.sh ORACLE [SECONDS SEED]}" && pwd)
 shift
 cd "$(dirname "$0")/.."
-rt check magnetar_vectors magnetar_forms magnetar_cases >/dev/null
-rt staticlib magnetar_c >/dev/null
-compare/build.sh "$oracle" target/staticlib target/compare
+mkdir -p target/bin
+for name in magnetar_vectors magnetar_forms magnetar_cases; do
+    (cd "crates/$name" && rt run </dev/null) >/dev/null
+    cp "crates/$name/out/$name" target/bin
+done
+(cd crates/magnetar_c && rt lib) >/dev/null
+compare/build.sh "$oracle" crates/magnetar_c/out target/compare
 RAYON_NUM_THREADS=1 target/compare/compare target/bin "$@"

@@ -142,7 +142,8 @@ pub fn verify_virtual_spartan(
     let z = walks::rules_refusal(m, q, sh, es);
     let a = verify_with(z, claims, scratch, m, q, lens, sh, es, x, proof, u);
     let v = a.transcript;
-    t.state = v.state;
+    let state = v.state;
+    t.state = state;
     t.squeeze_ctr = v.squeeze_ctr;
     a.code
 }
@@ -302,7 +303,8 @@ pub fn prove_virtual_spartan(
         scratch.len(),
     );
     let v = prove_unless(n, proof, claims, scratch, m, q, lens, sh, es, packed, x, u);
-    t.state = v.state;
+    let state = v.state;
+    t.state = state;
     t.squeeze_ctr = v.squeeze_ctr;
     n
 }

@@ -7,20 +7,20 @@ use Rattle.magnetar_c.proofs.across.check_out.Goals as goal
 
 pub returns-in-Good : goal.returns-in-Good
 unfolding row_check_answer
-returns-in-Good c = sym (ap (λ (o : RowCheck). row_check_answer (outcome o)) c.enum_told-1.given.1)
+returns-in-Good c = sym (ap (λ (o : RowCheck). row_check_answer (outcome o)) c.in-Good.is)
 
 pub returns-in-Stray : goal.returns-in-Stray
 unfolding row_check_answer
-returns-in-Stray c = sym (ap (λ (o : RowCheck). row_check_answer (outcome o)) c.c-1.given.1)
+returns-in-Stray c = sym (ap (λ (o : RowCheck). row_check_answer (outcome o)) c.in-Stray.is)
 
 pub returns-in-Bin : goal.returns-in-Bin
 unfolding row_check_answer
-returns-in-Bin c = sym (ap (λ (o : RowCheck). row_check_answer (outcome o)) c.c-in-Bin-1.given.1)
+returns-in-Bin c = sym (ap (λ (o : RowCheck). row_check_answer (outcome o)) c.in-Bin.is)
 
 pub returns-in-Fld : goal.returns-in-Fld
 unfolding row_check_answer
-returns-in-Fld c = sym (ap (λ (o : RowCheck). row_check_answer (outcome o)) c.c-in-Fld-1.given.1)
+returns-in-Fld c = sym (ap (λ (o : RowCheck). row_check_answer (outcome o)) c.in-Fld.is)
 
 pub returns-in-Refused : goal.returns-in-Refused
 unfolding row_check_answer
-returns-in-Refused c = sym (ap (λ (o : RowCheck). row_check_answer (outcome o)) c.c-in-Refused-1.given.1)
+returns-in-Refused c = sym (ap (λ (o : RowCheck). row_check_answer (outcome o)) c.in-Refused.is)

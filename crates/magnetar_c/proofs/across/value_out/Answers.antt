@@ -9,10 +9,9 @@ use Rattle.magnetar_c.proofs.across.value_out.Goals as goal
 
 pub returns-in-Value : goal.returns-in-Value
 returns-in-Value c =
-    let v = c.v-1.given in
-    let l : v.0.0.lo < 2 ^ 64 = search rules in
-    value-handed c.element_out-element.result l c.element_out-element.ensures ∙ sym (ap (λ (o : Evaluated). evaluated (answer o)) v.1)
+    let l : c.in-Value.e.lo < 2 ^ 64 = search rules in
+    value-handed c.element_out-element.result l c.element_out-element.ensures ∙ sym (ap (λ (o : Evaluated). evaluated (answer o)) c.in-Value.is)
 
 pub returns-in-Refused : goal.returns-in-Refused
 unfolding evaluated
-returns-in-Refused c = sym (ap (λ (o : Evaluated). evaluated (answer o)) c.v-in-Refused-1.given.1)
+returns-in-Refused c = sym (ap (λ (o : Evaluated). evaluated (answer o)) c.in-Refused.is)

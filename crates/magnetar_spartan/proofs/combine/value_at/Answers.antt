@@ -14,7 +14,7 @@ returns c =
     let y = c in
     let s = c in
     let x = s.args in
-    let e : valued r.eval_m_combo-r.result r.eval_m_combo-r.last.1.0 ≡ value_at x.n (R) x.d x.s.now = r.eval_m_combo-r.ensures ∙ rw (
+    let e : valued r.eval_m_combo-r.result r.eval_m_combo-r.new.s ≡ value_at x.n (R) x.d x.s.now = r.eval_m_combo-r.ensures ∙ rw (
       y.inner_point-y.ensures,
       y.fld_point-pf.ensures,
       y.bin_point-pb.ensures,

@@ -23,7 +23,7 @@ returns c =
     let w = x.proof.now in
     let k = x.claims.now in
     let s = x.s.now in (
-      λ i. omega (arith, f.shared_slice_known-3-1.given i),
+      λ i. omega (arith, c.type_inv.x i),
       λ ld ok.
           let F = g.ensures (fold-sizes r ws p w d k s t ok ld) in
           let E = e.end-u.ensures (length ws) (length p) (end-sizes r ws p w d k s t ok ld _ F g.auto.s) ld in

@@ -12,7 +12,7 @@ returns-then-n-ne0 c =
         let x = c.args in sizes_only x.m x.q x.rb x.rf x.lens.now in
     let s = c in
     let x = s.args in
-    (finish-back x.n (o) x.proof.now x.t x.g (value x.v) (value x.p) x.claims.now c.if-n-ne0.true, λ j. omega (arith, c.shared_slice_known-2-1.given j))
+    (finish-back x.n (o) x.proof.now x.t x.g (value x.v) (value x.p) x.claims.now c.if-n-ne0.true, λ j. omega (arith, c.type_inv.proof j))
 
 pub returns : goal.returns
 returns c =
@@ -22,4 +22,4 @@ returns c =
     let i = c in
     let s = c in
     let x = s.args in
-    (finish-is x.n (o) x.proof.now x.t x.g (value x.v) (value x.p) x.claims.now _ _ i.if-n-ne0.false a.checks.ensures, λ j. omega (arith, i.shared_slice_known-2-1.given j))
+    (finish-is x.n (o) x.proof.now x.t x.g (value x.v) (value x.p) x.claims.now _ _ i.if-n-ne0.false a.checks.ensures, λ j. omega (arith, c.type_inv.proof j))

@@ -6,7 +6,7 @@ use Rattle.magnetar_spartan.proofs.stages.public_unless.Goals as goal
 pub returns-then-n-ne0 : goal.returns-then-n-ne0
 returns-then-n-ne0 c =
     let n = ne_eqb _ 0 c.if-n-ne0.true in
-    (rw n, rw n, λ j. omega (arith, c.shared_slice_known-1.given j))
+    (rw n, rw n, λ j. omega (arith, c.type_inv.x j))
 
 pub returns : goal.returns
 returns c =
@@ -20,5 +20,5 @@ returns c =
     let g = v.public_at.ensures in (
       rw (e.if-n-ne0.false, ← y.inner_point-y.ensures, ← l.log2-l.ensures.0, ← b.log2-b.ensures.0, ← f.log2-f.ensures.0, ← n.least-i.ensures.0) g.0,
       rw (e.if-n-ne0.false, ← l.log2-l.ensures.0, ← b.log2-b.ensures.0, ← f.log2-f.ensures.0, ← n.least-i.ensures.0) g.1,
-      λ j. omega (arith, e.shared_slice_known-1.given j),
+      λ j. omega (arith, c.type_inv.x j),
     )

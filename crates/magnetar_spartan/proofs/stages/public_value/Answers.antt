@@ -8,19 +8,6 @@ use Rattle.magnetar_spartan.proofs.PublicValue.{public-short, public-refused, si
 use borrow.Author.Rules.{rules}
 use Rattle.magnetar_spartan.proofs.stages.public_value.Goals as goal
 
--- what is known once nothing is refused
-enough : (l : goal.After-log2-k) → let x = l.args in 2 * x.m + 2 * x.q ≤ length x.s.now
-enough l = let e = c in omega (arith, e.if-q-h.false, e.if-m-h.false)
-
-sized-half : (l : goal.After-log2-k) → Sized 1 32768 (l.args.m / 2)
-sized-half l =
-    let f = c in
-    let x = f.args in
-    size_is x.m x.q x.x.now x.point.now x.y x.s.now f.fold_public_in-n.result (enough l) f.fold_public_in-n.ensures.answer l.if-n-ne0.false
-
-log-small-half : (l : goal.After-log2-k) → l.log2-k.result ≤ 16
-log-small-half l = let z = sized-half l in omega (arith, l.log2-k.ensures.0, log-most _ (omega (arith, z.high)) z.power)
-
 pub returns-then-m-h : goal.returns-then-m-h
 returns-then-m-h c =
     let x = c.args in
@@ -39,18 +26,27 @@ returns-then-n-ne0 c =
     public-refused x.m x.q x.x.now x.point.now x.y x.s.now f.fold_public_in-n.result _ (omega (arith, e.if-q-h.false, e.if-m-h.false)) f.fold_public_in-n.ensures.answer c.if-n-ne0.true f.fold_public_in-n.ensures.folded
 
 pub slice_bounds-half_value-end : goal.slice_bounds-half_value-end
-slice_bounds-half_value-end c = omega (arith, log-small-half c.before.before)
+slice_bounds-half_value-end c =
+    let x = c.args in
+    let f = c.fold_public_in-n in
+    let enough : 2 * x.m + 2 * x.q ≤ length x.s.now = omega (arith, c.if-q-h.false, c.if-m-h.false) in
+    let z = size_is x.m x.q x.x.now x.point.now x.y x.s.now f.result enough f.ensures.answer c.if-n-ne0.false in
+    omega (arith, c.log2-k.ensures.0, log-most (x.m / 2) (omega (arith, z.high)) z.power)
 
 pub half_value-v-requires : goal.half_value-v-requires
-half_value-v-requires c = let l = c in (sized-half l, search rules, rw (length-take, ← l.log2-k.ensures.0) (omega (arith, log-small-half l, l.well-formed.1.1.1.1.1.0.1.0.1)))
+half_value-v-requires c =
+    let x = c.args in
+    let f = c.fold_public_in-n in
+    let enough : 2 * x.m + 2 * x.q ≤ length x.s.now = omega (arith, c.if-q-h.false, c.if-m-h.false) in
+    let z = size_is x.m x.q x.x.now x.point.now x.y x.s.now f.result enough f.ensures.answer c.if-n-ne0.false in
+    let small : c.log2-k.result ≤ 16 = omega (arith, c.log2-k.ensures.0, log-most (x.m / 2) (omega (arith, z.high)) z.power) in
+    (z, search rules, rw (length-take, ← c.log2-k.ensures.0) (omega (arith, small)))
 
 pub returns : goal.returns
 returns c =
-    let k = c in
-    let v = c in
-    let l = c in
-    let f = c in
-    let e = c in
-    let x = e.args in
-    public-some x.m x.q x.x.now x.point.now x.y x.s.now f.fold_public_in-n.result (enough l) f.fold_public_in-n.ensures.answer l.if-n-ne0.false l.log2-k.result (value v.half_value-v.result) _ _ _
-    f.fold_public_in-n.ensures.folded l.log2-k.ensures.0 v.half_value-v.ensures.value v.half_value-v.auto.s v.half_value-v.ensures.behind k.clear_front.ensures
+    let x = c.args in
+    let f = c.fold_public_in-n in
+    let h = c.half_value-v in
+    let enough : 2 * x.m + 2 * x.q ≤ length x.s.now = omega (arith, c.if-q-h.false, c.if-m-h.false) in
+    public-some x.m x.q x.x.now x.point.now x.y x.s.now f.result enough f.ensures.answer c.if-n-ne0.false c.log2-k.result (value h.result) _ _ _
+    f.ensures.folded c.log2-k.ensures.0 h.ensures.value h.auto.s h.ensures.behind c.clear_front.ensures

@@ -6,9 +6,6 @@ use Rattle.magnetar_relation.specs.RuleTests.{rule_tests}
 use Rattle.magnetar_relation.proofs.RuleLaws.{lengths-free}
 use Rattle.magnetar_spartan.proofs.VerifyEnds.{verify-ends}
 use borrow.Author.Rules.{rules}
-use Rattle.magnetar_spartan.proofs.virtual_spartan.verify_virtual_spartan.Statement.{
-  statement,
-}
 use Rattle.magnetar_spartan.proofs.virtual_spartan.verify_virtual_spartan.Goals as goal
 
 pub returns : goal.returns
@@ -31,11 +28,11 @@ returns c =
     let s = c in
     let x = s.args in
     let e = verify-ends (R) x.x.now x.proof.now x.t x.claims.now x.scratch.now y.refused.result n.verify-z.result
-    (number) n.verify-z.ensures g.begin-g.result (value v.value_at-v.result) (value h.public_unless-p.result) v.value_at-v.last.1.0 h.public_unless-p.last.1.0 k.clear_unless.last.1.0 f.finish.result f.finish.last.1.0
+    (number) n.verify-z.ensures g.begin-g.result (value v.value_at-v.result) (value h.public_unless-p.result) v.value_at-v.new.s h.public_unless-p.new.s k.clear_unless.new.s f.finish.result f.finish.new.claims
     (record {
       begun = g.begin-g.ensures;
-      table = rw (← i.code_of_lem.ensures, ← d.draws_of-d.ensures) v.value_at-v.ensures;
-      half = rw (← i.code_of_lem.ensures, ← d.draws_of-d.ensures) (h.public_unless-p.ensures.0, h.public_unless-p.ensures.1);
+      table = rw (← i.code_of-k.ensures, ← d.draws_of-d.ensures) v.value_at-v.ensures;
+      half = rw (← i.code_of-k.ensures, ← d.draws_of-d.ensures) (h.public_unless-p.ensures.0, h.public_unless-p.ensures.1);
       room = k.clear_unless.ensures;
       ended = f.finish.ensures.0;
     }) h.public_unless-p.ensures.2 f.finish.ensures.1 in record {
