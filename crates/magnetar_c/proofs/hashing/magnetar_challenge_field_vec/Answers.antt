@@ -4,5 +4,4 @@ use Rattle.magnetar_c.proofs.hashing.magnetar_challenge_field_vec.Goals as goal
 
 pub returns : goal.returns
 returns c =
-    let d = c in
-    draws-handed _ _ _ c.answer_out.ensures d.challenge_field_vec.ensures d.transcript_in.ensures
+    draws-handed _ _ _ c.answer_out.ensures c.challenge_field_vec.ensures c.transcript_in.ensures

@@ -3,7 +3,7 @@ use Rattle.magnetar_c.proofs.tables.magnetar_bind_var.Goals as goal
 
 pub returns : goal.returns
 returns c =
-    let d = c in record {
-      refusal = d.bind_var.ensures.refusal;
-      bound = rw (d.bind_var.ensures.bound, d.element_in.ensures);
+    record {
+      refusal = c.bind_var.ensures.refusal;
+      bound = rw (c.bind_var.ensures.bound, c.element_in.ensures);
     }

@@ -3,7 +3,7 @@ use Rattle.magnetar_c.proofs.tables.magnetar_eq_build.Goals as goal
 
 pub returns : goal.returns
 returns c =
-    let d = c in record {
-      refusal = d.build.ensures.refusal;
-      table = rw (d.build.ensures.table, d.element_in.ensures);
+    record {
+      refusal = c.build.ensures.refusal;
+      table = rw (c.build.ensures.table, c.element_in.ensures);
     }

@@ -4,5 +4,4 @@ use Rattle.magnetar_spartan.proofs.combine.inner_point.Goals as goal
 
 pub returns : goal.returns
 returns c =
-    let k = c in
-    c.window32.ensures ∙ rw k.alphas_at-k.ensures.0
+    c.window32.ensures ∙ rw c.alphas_at-k.ensures.0

@@ -8,8 +8,6 @@ use Rattle.magnetar_spartan.proofs.combine.run_alphas.Goals as goal
 pub returns : goal.returns
 returns c =
     let w = c.copy in
-    let a = c in
-    let k = c in
-    let x = k.args in
-    window-is 12 k.alphas_at-k.result a.least-a.result x.d _ a.least-a.ensures.0 w.ensures
-    ∙ ap (λ (i : ℕ). window 12 i x.d) k.alphas_at-k.ensures.0
+    let x = c.args in
+    window-is 12 c.alphas_at-k.result c.least-a.result x.d _ c.least-a.ensures.0 w.ensures
+    ∙ ap (λ (i : ℕ). window 12 i x.d) c.alphas_at-k.ensures.0

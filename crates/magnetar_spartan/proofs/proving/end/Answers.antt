@@ -13,19 +13,13 @@ sums l b f m = omega arith
 
 pub returns : goal.returns
 returns c =
-    let g = c in
-    let u = c in
-    let n = c in
-    let i = c in
-    let l = c in
-    let k = c in
-    let x = k.args in
+    let x = c.args in
     let w = x.proof.now in
     let words : ℕ → ℕ = λ j. 2 * (8 * log₂ x.q + 4 * log₂ x.rb + 4 * log₂ x.rf + 6 + 3 * log₂ x.m + 1 + j) in
-    let said : i.least-i.result ≡ min (words (min (length x.lens.now) 64)) (length w) =
-    i.least-i.ensures.0 ∙ ap (λ (j : ℕ). min j (length w)) (i.proof_words.ensures ∙ ap words l.least-l.ensures.0) in
+    let said : c.least-i.result ≡ min (words (min (length x.lens.now) 64)) (length w) =
+    c.least-i.ensures.0 ∙ ap (λ (j : ℕ). min j (length w)) (c.proof_words.ensures ∙ ap words c.least-l.ensures.0) in
     λ ws xs ok ld. end-left (sizes_only_rules x.m x.q x.rb x.rf x.lens.now) ws xs w x.d x.claims.now x.s.now x.t ok ld
-    _ _ i.least-i.result n.least-n.result k.sent_before-a.ensures
-    (k.drawn_before-k.ensures ∙ sums (log₂ x.q) (log₂ x.rb) (log₂ x.rf) (log₂ x.m))
-    said (n.least-n.ensures.0 ∙ ap (λ (j : ℕ). min j 256) n.draw_words.ensures)
-    u.inner_part-u.result _ _ _ u.inner_part-u.ensures _ g.write_claims-done.ensures.written
+    _ _ c.least-i.result c.least-n.result c.sent_before-a.ensures
+    (c.drawn_before-k.ensures ∙ sums (log₂ x.q) (log₂ x.rb) (log₂ x.rf) (log₂ x.m))
+    said (c.least-n.ensures.0 ∙ ap (λ (j : ℕ). min j 256) c.draw_words.ensures)
+    c.inner_part-u.result _ _ _ c.inner_part-u.ensures _ c.write_claims-done.ensures.written

@@ -9,15 +9,12 @@ use Rattle.magnetar_spartan.proofs.proving.inner_stage.Goals as goal
 
 pub returns : goal.returns
 returns c =
-    let z = c in
-    let e = c in
-    let f = c in
-    let x = f.args in
+    let x = c.args in
     let r = sizes_only_rules x.m x.q x.rb x.rf x.lens.now in
     let d = x.o.«draws» in
     let t = x.o.«transcript» in
-    let g = f.fold_behind in
-    let n = z.least-n in
+    let g = c.fold_behind in
+    let n = c.least-n in
     let ws = x.packed.now in
     let p = x.x.now in
     let w = x.proof.now in
@@ -26,6 +23,6 @@ returns c =
       λ i. omega (arith, c.type_inv.x i),
       λ ld ok.
           let F = g.ensures (fold-sizes r ws p w d k s t ok ld) in
-          let E = e.end-u.ensures (length ws) (length p) (end-sizes r ws p w d k s t ok ld _ F g.auto.s) ld in
-          later-ends r ws p w d k s t ok ld _ F g.auto.s _ _ _ _ E n.result _ n.ensures.0 (ap (λ (a : ScratchWords). a.words) z.prover_scratch-a.ensures) _ z.clear.ensures,
+          let E = c.end-u.ensures (length ws) (length p) (end-sizes r ws p w d k s t ok ld _ F g.auto.s) ld in
+          later-ends r ws p w d k s t ok ld _ F g.auto.s _ _ _ _ E n.result _ n.ensures.0 (ap (λ (a : ScratchWords). a.words) c.prover_scratch-a.ensures) _ c.clear.ensures,
     )

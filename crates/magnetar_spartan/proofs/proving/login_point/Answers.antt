@@ -15,14 +15,13 @@ loop-i-init c = (search rules, refl, made_none _ _)
 
 pub loop-i-preserved : goal.loop-i-preserved
 loop-i-preserved c =
-    let p = c in
     let l = c.loop-i in
     let x = c.args in (
       search rules,
       search rules,
-      rw (ap elements p.put.ensures ∙ elements-stored l.out l.i (value p.get.result))
+      rw (ap elements c.put.ensures ∙ elements-stored l.out l.i (value c.get.result))
           (made_more (λ (j : ℕ). get_or (elements x.draws.now) (x.k + (x.n - 1 - j)) 0) (elements x.out.now) (elements l.out) l.i
-          (value p.get.result) l.invariant.2 (rw elements-length (omega arith)) p.get.ensures),
+          (value c.get.result) l.invariant.2 (rw elements-length (omega arith)) c.get.ensures),
     )
 
 pub returns : goal.returns

@@ -3,10 +3,4 @@ use Rattle.magnetar_spartan.proofs.refusal.prove_lent.Goals as goal
 
 pub returns : goal.returns
 returns c =
-    let r = c in
-    let n = c in
-    let k = c in
-    let m = c in
-    let p = c in
-    let t = c in
-    rw (c.refuse.ensures, r.prover_scratch-s.ensures, n.refuse-z-2.ensures, k.claim_words.ensures, m.refuse-z.ensures, p.proof_words.ensures, t.counter-z.ensures)
+    rw (c.refuse.ensures, c.prover_scratch-s.ensures, c.refuse-z-2.ensures, c.claim_words.ensures, c.refuse-z.ensures, c.proof_words.ensures, c.counter-z.ensures)

@@ -12,24 +12,20 @@ returns-then-n-ne0 c = rw (ne_eqb _ 0 c.if-n-ne0.true)
 
 pub returns-then-q-h : goal.returns-then-q-h
 returns-then-q-h c =
-    let l = c in
-    let x = l.args in
-    rw l.if-n-ne0.false (c.clear_front.ensures ∙ ap (λ (k : ℕ). cleared_to (x.m + k + x.q) x.s.now) l.larger-k.ensures)
+    let x = c.args in
+    rw c.if-n-ne0.false (c.clear_front.ensures ∙ ap (λ (k : ℕ). cleared_to (x.m + k + x.q) x.s.now) c.larger-k.ensures)
 
 pub returns-else-q-h : goal.returns-else-q-h
 returns-else-q-h c =
-    let l = c in
-    let x = l.args in
-    rw l.if-n-ne0.false (cleared-none (x.m + max x.rb x.rf + x.q) x.s.now (omega (arith, l.larger-k.ensures)))
+    let x = c.args in
+    rw c.if-n-ne0.false (cleared-none (x.m + max x.rb x.rf + x.q) x.s.now (omega (arith, c.larger-k.ensures)))
 
 pub returns-else-k-h : goal.returns-else-k-h
 returns-else-k-h c =
-    let l = c in
-    let x = l.args in
-    rw l.if-n-ne0.false (cleared-none (x.m + max x.rb x.rf + x.q) x.s.now (omega (arith, l.larger-k.ensures)))
+    let x = c.args in
+    rw c.if-n-ne0.false (cleared-none (x.m + max x.rb x.rf + x.q) x.s.now (omega (arith, c.larger-k.ensures)))
 
 pub returns-else-m-h : goal.returns-else-m-h
 returns-else-m-h c =
-    let l = c in
-    let x = l.args in
-    rw l.if-n-ne0.false (cleared-none (x.m + max x.rb x.rf + x.q) x.s.now (omega (arith, l.larger-k.ensures)))
+    let x = c.args in
+    rw c.if-n-ne0.false (cleared-none (x.m + max x.rb x.rf + x.q) x.s.now (omega (arith, c.larger-k.ensures)))

@@ -5,10 +5,8 @@ use Rattle.magnetar_spartan.proofs.stages.half_value.Goals as goal
 
 pub returns : goal.returns
 returns c =
-    let b = c in
-    let s = c in
-    let x = s.args in
-    let g = s.requires in record {
-      value = c.dot.ensures ∙ front-dot x.w x.s.now x.p.now b.build.new.out g.0 g.1 g.2 b.build.ensures.table;
-      behind = front-behind x.w x.s.now x.p.now b.build.new.out g.0 g.1 g.2 b.build.ensures.table;
+    let x = c.args in
+    let g = c.requires in record {
+      value = c.dot.ensures ∙ front-dot x.w x.s.now x.p.now c.build.new.out g.0 g.1 g.2 c.build.ensures.table;
+      behind = front-behind x.w x.s.now x.p.now c.build.new.out g.0 g.1 g.2 c.build.ensures.table;
     }

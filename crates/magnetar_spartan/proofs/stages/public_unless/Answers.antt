@@ -10,15 +10,8 @@ returns-then-n-ne0 c =
 
 pub returns : goal.returns
 returns c =
-    let v = c in
-    let y = c in
-    let n = c in
-    let f = c in
-    let b = c in
-    let l = c in
-    let e = c in
-    let g = v.public_at.ensures in (
-      rw (e.if-n-ne0.false, ← y.inner_point-y.ensures, ← l.log2-l.ensures.0, ← b.log2-b.ensures.0, ← f.log2-f.ensures.0, ← n.least-i.ensures.0) g.0,
-      rw (e.if-n-ne0.false, ← l.log2-l.ensures.0, ← b.log2-b.ensures.0, ← f.log2-f.ensures.0, ← n.least-i.ensures.0) g.1,
+    let g = c.public_at.ensures in (
+      rw (c.if-n-ne0.false, ← c.inner_point-y.ensures, ← c.log2-l.ensures.0, ← c.log2-b.ensures.0, ← c.log2-f.ensures.0, ← c.least-i.ensures.0) g.0,
+      rw (c.if-n-ne0.false, ← c.log2-l.ensures.0, ← c.log2-b.ensures.0, ← c.log2-f.ensures.0, ← c.least-i.ensures.0) g.1,
       λ j. omega (arith, c.type_inv.x j),
     )

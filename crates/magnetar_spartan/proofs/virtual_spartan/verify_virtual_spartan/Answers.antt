@@ -10,32 +10,20 @@ use Rattle.magnetar_spartan.proofs.virtual_spartan.verify_virtual_spartan.Goals 
 
 pub returns : goal.returns
 returns c =
+    let x = c.args in
     let R : Rules =
-        let x = c.args in rules x.m x.q x.lens.now x.sh x.row.now x.col.now x.lo.now x.hi.now in
-    let number : c.refused.result ≡ first_refusal 0 (rule_tests (R)) =
-        let s = c in
-        let x = s.args in
+        rules x.m x.q x.lens.now x.sh x.row.now x.col.now x.lo.now x.hi.now in
+    let number : c.refused.result ≡ first_refusal 0 (rule_tests R) =
         c.refused.ensures ∙ ap (first_refusal 0) (lengths-free x.m x.q x.lens.now x.sh x.row.now x.col.now x.lo.now x.hi.now) in
-    let f = c in
-    let k = c in
-    let h = c in
-    let v = c in
-    let i = c in
-    let d = c in
-    let g = c in
-    let n = c in
-    let y = c in
-    let s = c in
-    let x = s.args in
-    let e = verify-ends (R) x.x.now x.proof.now x.t x.claims.now x.scratch.now y.refused.result n.verify-z.result
-    (number) n.verify-z.ensures g.begin-g.result (value v.value_at-v.result) (value h.public_unless-p.result) v.value_at-v.new.s h.public_unless-p.new.s k.clear_unless.new.s f.finish.result f.finish.new.claims
+    let e = verify-ends R x.x.now x.proof.now x.t x.claims.now x.scratch.now c.refused.result c.verify-z.result
+    number c.verify-z.ensures c.begin-g.result (value c.value_at-v.result) (value c.public_unless-p.result) c.value_at-v.new.s c.public_unless-p.new.s c.clear_unless.new.s c.finish.result c.finish.new.claims
     (record {
-      begun = g.begin-g.ensures;
-      table = rw (← i.code_of-k.ensures, ← d.draws_of-d.ensures) v.value_at-v.ensures;
-      half = rw (← i.code_of-k.ensures, ← d.draws_of-d.ensures) (h.public_unless-p.ensures.0, h.public_unless-p.ensures.1);
-      room = k.clear_unless.ensures;
-      ended = f.finish.ensures.0;
-    }) h.public_unless-p.ensures.2 f.finish.ensures.1 in record {
+      begun = c.begin-g.ensures;
+      table = rw (← c.code_of-k.ensures, ← c.draws_of-d.ensures) c.value_at-v.ensures;
+      half = rw (← c.code_of-k.ensures, ← c.draws_of-d.ensures) (c.public_unless-p.ensures.0, c.public_unless-p.ensures.1);
+      room = c.clear_unless.ensures;
+      ended = c.finish.ensures.0;
+    }) c.public_unless-p.ensures.2 c.finish.ensures.1 in record {
       outcome = e.0;
       bound = e.1;
       sound = e.2;
