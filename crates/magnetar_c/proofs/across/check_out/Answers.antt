@@ -2,7 +2,6 @@ use mathlib.Core.Path.{ap, sym}
 use Rattle.magnetar_check.specs.Check.{outcome}
 use Rattle.magnetar_check.specs.declared.check.RowCheck.{RowCheck}
 use Rattle.magnetar_c.specs.CStructs.{row_check_answer}
-use borrow.Author.Rules.{rules}
 use Rattle.magnetar_c.proofs.across.check_out.Goals as goal
 
 pub returns-in-Good : goal.returns-in-Good

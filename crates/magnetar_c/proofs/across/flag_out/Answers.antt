@@ -2,7 +2,6 @@ use mathlib.Core.Path.{ap, sym}
 use Rattle.magnetar_r1cs.specs.Entries.{flagged}
 use Rattle.magnetar_r1cs.specs.declared.r1cs.Flag.{Flag}
 use Rattle.magnetar_c.specs.CStructs.{flag}
-use borrow.Author.Rules.{rules}
 use Rattle.magnetar_c.proofs.across.flag_out.Goals as goal
 
 pub returns-in-Yes : goal.returns-in-Yes

@@ -1,4 +1,3 @@
-use borrow.Author.Rules.{rules}
 use Rattle.magnetar_c.proofs.hashing.magnetar_absorb_field.Goals as goal
 
 pub returns : goal.returns

@@ -1,5 +1,4 @@
 use Rattle.magnetar_c.proofs.Handed.{draws-handed}
-use borrow.Author.Rules.{rules}
 use Rattle.magnetar_c.proofs.hashing.magnetar_challenge_field_vec.Goals as goal
 
 pub returns : goal.returns

@@ -1,6 +1,5 @@
 use mathlib.Core.Path.{ap, ◌∙◌}
 use Rattle.magnetar_c.specs.CStructs.{flag}
-use borrow.Author.Rules.{rules}
 use Rattle.magnetar_c.proofs.matrices.magnetar_apply_simd_packed.Goals as goal
 
 pub returns : goal.returns

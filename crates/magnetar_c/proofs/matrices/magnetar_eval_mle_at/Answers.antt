@@ -1,6 +1,5 @@
 use mathlib.Core.Path.{ap, ◌∙◌}
 use Rattle.magnetar_c.specs.CStructs.{evaluated}
-use borrow.Author.Rules.{rules}
 use Rattle.magnetar_c.proofs.matrices.magnetar_eval_mle_at.Goals as goal
 
 pub returns : goal.returns

@@ -1,4 +1,3 @@
-use borrow.Author.Rules.{rules}
 use Rattle.magnetar_c.proofs.rounds.magnetar_outer_message.Goals as goal
 
 pub returns : goal.returns

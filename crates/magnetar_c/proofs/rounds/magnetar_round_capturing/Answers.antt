@@ -1,5 +1,4 @@
 use Rattle.magnetar_c.proofs.Handed.{capture-handed}
-use borrow.Author.Rules.{rules}
 use Rattle.magnetar_c.proofs.rounds.magnetar_round_capturing.Goals as goal
 
 pub returns : goal.returns

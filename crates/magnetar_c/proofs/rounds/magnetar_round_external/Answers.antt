@@ -1,5 +1,4 @@
 use Rattle.magnetar_c.proofs.Handed.{round-handed}
-use borrow.Author.Rules.{rules}
 use Rattle.magnetar_c.proofs.rounds.magnetar_round_external.Goals as goal
 
 pub returns : goal.returns

@@ -1,5 +1,4 @@
 use Rattle.magnetar_c.proofs.Handed.{proved-handed}
-use borrow.Author.Rules.{rules}
 use Rattle.magnetar_c.proofs.runs.magnetar_prove_virtual_spartan.Goals as goal
 
 pub returns : goal.returns

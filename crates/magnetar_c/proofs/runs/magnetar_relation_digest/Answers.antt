@@ -1,5 +1,4 @@
 use mathlib.Core.Path.{◌∙◌}
-use borrow.Author.Rules.{rules}
 use Rattle.magnetar_c.proofs.runs.magnetar_relation_digest.Goals as goal
 
 pub returns : goal.returns

@@ -1,7 +1,6 @@
 use mathlib.Core.Path.{ap, ◌∙◌}
 use Rattle.magnetar_check.specs.Check.{Checked}
 use Rattle.magnetar_c.specs.CStructs.{row_check_answer}
-use borrow.Author.Rules.{rules}
 use Rattle.magnetar_c.proofs.runs.magnetar_row_check.Goals as goal
 
 pub returns : goal.returns

@@ -1,5 +1,4 @@
 use Rattle.magnetar_c.proofs.Handed.{verified-handed}
-use borrow.Author.Rules.{rules}
 use Rattle.magnetar_c.proofs.runs.magnetar_verify_virtual_spartan.Goals as goal
 
 pub returns : goal.returns

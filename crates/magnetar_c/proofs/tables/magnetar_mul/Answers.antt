@@ -1,4 +1,3 @@
-use borrow.Author.Rules.{rules}
 use Rattle.magnetar_c.proofs.tables.magnetar_mul.Goals as goal
 
 pub returns : goal.returns

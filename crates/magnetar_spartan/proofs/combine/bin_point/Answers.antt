@@ -1,7 +1,6 @@
 use mathlib.Core.Path.{◌∙◌, ap}
 use Prim.Native.Nat.{ℕ}
 use Rattle.magnetar_spartan.specs.Table.{window}
-use borrow.Author.Rules.{rules}
 use Rattle.magnetar_spartan.proofs.combine.bin_point.Goals as goal
 
 pub returns : goal.returns

@@ -1,4 +1,3 @@
-use borrow.Author.Rules.{rules}
 use Rattle.magnetar_spartan.proofs.combine.combine_at.Goals as goal
 
 pub returns : goal.returns

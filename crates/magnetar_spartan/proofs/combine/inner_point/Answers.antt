@@ -1,5 +1,4 @@
 use mathlib.Core.Path.{◌∙◌}
-use borrow.Author.Rules.{rules}
 use Rattle.magnetar_spartan.proofs.combine.inner_point.Goals as goal
 
 pub returns : goal.returns

@@ -2,7 +2,6 @@ use mathlib.Core.Path.{ap, ◌∙◌}
 use Prim.Native.Nat.{ℕ}
 use Rattle.magnetar_spartan.specs.Table.{window}
 use Rattle.magnetar_spartan.proofs.StageLaws.{window-is}
-use borrow.Author.Rules.{rules}
 use Rattle.magnetar_spartan.proofs.combine.run_alphas.Goals as goal
 
 pub returns : goal.returns

@@ -3,7 +3,6 @@ use mathlib.Core.List.{[]}
 use Rattle.magnetar_relation.specs.Rules.{Rules, rules}
 use Rattle.magnetar_batch.specs.Value.{CombinedAt, valued}
 use Rattle.magnetar_spartan.specs.Table.{value_at}
-use borrow.Author.Rules.{rules}
 use Rattle.magnetar_spartan.proofs.combine.value_at.Goals as goal
 
 pub returns : goal.returns

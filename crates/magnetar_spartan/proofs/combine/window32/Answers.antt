@@ -1,5 +1,4 @@
 use Rattle.magnetar_spartan.proofs.StageLaws.{window-is}
-use borrow.Author.Rules.{rules}
 use Rattle.magnetar_spartan.proofs.combine.window32.Goals as goal
 
 pub returns : goal.returns

@@ -3,7 +3,6 @@ use Prim.Native.Nat.{◌+◌, ◌-◌, ◌≤◌}
 use native.Mathlib.Omega.{arith}
 use lib.ListN.{length}
 use Rattle.magnetar_spartan.proofs.ProductLaws.{Copied, copied_none, copied_more}
-use borrow.Author.Rules.{rules}
 use Rattle.magnetar_spartan.proofs.products.copy_in.Given as goal
 
 abbrev pub invariant-loop-i : goal.invariant-loop-i

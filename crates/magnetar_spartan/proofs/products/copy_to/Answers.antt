@@ -1,7 +1,6 @@
 use mathlib.Core.Path.{sym, ◌∙◌}
 use native.Mathlib.Omega.{arith}
 use Rattle.magnetar_spartan.proofs.ProductLaws.{copied_some, copied-over, copied-long}
-use borrow.Author.Rules.{rules}
 use Rattle.magnetar_spartan.proofs.products.copy_to.Goals as goal
 
 pub returns-then-n-s : goal.returns-then-n-s

@@ -1,6 +1,5 @@
 use native.Mathlib.Omega.{arith}
 use Rattle.magnetar_spartan.proofs.ProductLaws.{part-a, part-b, part_c}
-use borrow.Author.Rules.{rules}
 use Rattle.magnetar_spartan.proofs.products.part_in.Goals as goal
 
 pub returns-then-k-lt2 : goal.returns-then-k-lt2

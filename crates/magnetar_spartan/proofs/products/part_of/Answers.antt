@@ -1,7 +1,6 @@
 use native.Mathlib.Omega.{arith}
 use Rattle.magnetar_relation.proofs.EndLaws.{bin-ends}
 use Rattle.magnetar_spartan.proofs.ProductLaws.{part-bin, part-fld}
-use borrow.Author.Rules.{rules}
 use Rattle.magnetar_spartan.proofs.products.part_of.Goals as goal
 
 pub returns-then-k-lt4 : goal.returns-then-k-lt4

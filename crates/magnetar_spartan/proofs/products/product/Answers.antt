@@ -4,7 +4,6 @@ use native.Mathlib.Omega.{arith}
 use Rattle.magnetar_relation.specs.Rules.{Rules, rules}
 use Rattle.magnetar_spartan.specs.Products.{part_of}
 use Rattle.magnetar_spartan.proofs.ProductLaws.{there, no_room}
-use borrow.Author.Rules.{rules}
 use Rattle.magnetar_spartan.proofs.products.product.Goals as goal
 
 pub returns-then-p-s : goal.returns-then-p-s

@@ -2,7 +2,6 @@ use mathlib.Core.Path.{ap₂}
 use Prim.Native.Nat.{ℕ, ◌*◌, ◌≤◌}
 use native.Mathlib.Omega.{arith}
 use Rattle.magnetar_matrix.proofs.Blocks.{product-fits}
-use borrow.Author.Rules.{rules}
 use Rattle.magnetar_spartan.proofs.products.product_words.Goals as goal
 
 pub overflow_mul-result : goal.overflow_mul-result

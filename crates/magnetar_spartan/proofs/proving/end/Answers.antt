@@ -5,7 +5,6 @@ use lib.ListN.{length}
 use Rattle.magnetar_field.specs.Sizes.{log₂}
 use Rattle.magnetar_spartan.specs.Proving.{sizes_only_rules}
 use Rattle.magnetar_spartan.proofs.InnerPartLaws.{end-left}
-use borrow.Author.Rules.{rules}
 use Rattle.magnetar_spartan.proofs.proving.end.Goals as goal
 
 sums : (l b f m : ℕ) → 2 * (l + b + (l + f) + l + b + f + 6) ≡ 2 * (l + b + (l + f + (l + (b + (f + (6 + m))))) - m)

@@ -1,7 +1,6 @@
 use mathlib.Core.Path.{◌∙◌}
 use native.Mathlib.Omega.{arith}
 use Rattle.magnetar_spartan.proofs.FoldLaws.{fold-ends}
-use borrow.Author.Rules.{rules}
 use Rattle.magnetar_spartan.proofs.proving.fold_at.Goals as goal
 
 pub returns-then-w-s : goal.returns-then-w-s

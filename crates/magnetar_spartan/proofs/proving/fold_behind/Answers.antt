@@ -2,7 +2,6 @@ use mathlib.Core.Path.{◌≡◌}
 use Prim.Native.Nat.{ℕ, ◌+◌}
 use Rattle.magnetar_spartan.specs.Proving.{login_at}
 use Rattle.magnetar_spartan.proofs.FoldLaws.{fold-left}
-use borrow.Author.Rules.{rules}
 use Rattle.magnetar_spartan.proofs.proving.fold_behind.Goals as goal
 
 pub returns : goal.returns

@@ -1,5 +1,4 @@
 use Rattle.magnetar_spartan.proofs.InnerPartLaws.{inner-done}
-use borrow.Author.Rules.{rules}
 use Rattle.magnetar_spartan.proofs.proving.inner_part.Goals as goal
 
 pub returns : goal.returns

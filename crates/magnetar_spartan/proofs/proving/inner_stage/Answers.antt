@@ -4,7 +4,6 @@ use lib.ListN.{length}
 use Rattle.magnetar_protocol.specs.declared.scratch.ScratchWords.{ScratchWords}
 use Rattle.magnetar_spartan.specs.Proving.{sizes_only_rules}
 use Rattle.magnetar_spartan.proofs.InnerPartLaws.{fold-sizes, end-sizes, later-ends}
-use borrow.Author.Rules.{rules}
 use Rattle.magnetar_spartan.proofs.proving.inner_stage.Goals as goal
 
 pub returns : goal.returns

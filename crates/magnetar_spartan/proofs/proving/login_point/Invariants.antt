@@ -7,7 +7,6 @@ use Rattle.magnetar_field.specs.Gf128.{value}
 use Rattle.magnetar_field.specs.Words.{elements}
 use Rattle.magnetar_field.proofs.Elements.{elements-length, elements-stored}
 use Rattle.magnetar_field.proofs.Making.{Made, made_none, made_more}
-use borrow.Author.Rules.{rules}
 use Rattle.magnetar_spartan.proofs.proving.login_point.Given as goal
 
 abbrev pub invariant-loop-i : goal.invariant-loop-i

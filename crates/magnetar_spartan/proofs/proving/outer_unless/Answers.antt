@@ -1,5 +1,4 @@
 use mathlib.Core.Path.{refl}
-use borrow.Author.Rules.{rules}
 use Rattle.magnetar_spartan.proofs.proving.outer_unless.Goals as goal
 
 pub returns-then-n-ne0 : goal.returns-then-n-ne0

@@ -10,7 +10,6 @@ use Rattle.magnetar_spartan.specs.Numbers.{rules_tests_by, prove_lent_tests}
 use Rattle.magnetar_spartan.proofs.Chains.{log-least, login-most, product-most}
 use Rattle.magnetar_spartan.proofs.ByNumbers.{Sizes, sizes-of, few-segments}
 use Rattle.magnetar_matrix.proofs.Blocks.{product-fits}
-use borrow.Author.Rules.{rules}
 use Rattle.magnetar_spartan.proofs.refusal.prove.Goals as goal
 
 pub returns-then-y-ne0 : goal.returns-then-y-ne0

@@ -1,4 +1,3 @@
-use borrow.Author.Rules.{rules}
 use Rattle.magnetar_spartan.proofs.refusal.prove_lent.Goals as goal
 
 pub returns : goal.returns

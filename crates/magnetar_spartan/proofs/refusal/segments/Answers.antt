@@ -3,7 +3,6 @@ use mathlib.Core.Path.{◌∙◌, sym}
 use Rattle.magnetar_layout.specs.Tests.{layout_tests}
 use Rattle.magnetar_layout.proofs.FirstRefusal.{first-refusal-kept}
 use Rattle.magnetar_spartan.proofs.Chains.{layout-tests}
-use borrow.Author.Rules.{rules}
 use Rattle.magnetar_spartan.proofs.refusal.segments.Goals as goal
 
 pub returns-then-y-ne0 : goal.returns-then-y-ne0

@@ -3,7 +3,6 @@ use Rattle.magnetar_hash.specs.declared.transcript.TranscriptAnswer.{TranscriptA
 use Rattle.magnetar_matrix.specs.Batch.{Relation}
 use Rattle.magnetar_protocol.specs.Shape.{sizes_only}
 use Rattle.magnetar_spartan.proofs.StageLaws.{part-is, outer-stage-is, outer-stage-back}
-use borrow.Author.Rules.{rules}
 use Rattle.magnetar_spartan.proofs.stages.begin.Goals as goal
 
 pub returns-then-n-ne0 : goal.returns-then-n-ne0

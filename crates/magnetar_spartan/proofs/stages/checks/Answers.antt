@@ -6,7 +6,6 @@ use Rattle.magnetar_matrix.specs.Batch.{Relation}
 use Rattle.magnetar_protocol.specs.Shape.{sizes_only}
 use Rattle.magnetar_spartan.specs.Stages.{drawn_of}
 use Rattle.magnetar_spartan.proofs.StageLaws.{part-is, stop-first, stop-later, stop-none}
-use borrow.Author.Rules.{rules}
 use Rattle.magnetar_spartan.proofs.stages.checks.Goals as goal
 
 pub returns-then-f-ne0 : goal.returns-then-f-ne0

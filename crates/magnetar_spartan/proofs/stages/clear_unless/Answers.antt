@@ -4,7 +4,6 @@ use native.Mathlib.Omega.{arith}
 use borrow.Author.Tests.{ne_eqb}
 use Rattle.magnetar_relation.specs.Steps.{cleared_to}
 use Rattle.magnetar_relation.proofs.StepLaws.{cleared-none}
-use borrow.Author.Rules.{rules}
 use Rattle.magnetar_spartan.proofs.stages.clear_unless.Goals as goal
 
 pub returns-then-n-ne0 : goal.returns-then-n-ne0

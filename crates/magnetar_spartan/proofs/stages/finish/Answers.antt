@@ -3,7 +3,6 @@ use Rattle.magnetar_field.specs.Gf128.{value}
 use Rattle.magnetar_matrix.specs.Batch.{Relation}
 use Rattle.magnetar_protocol.specs.Shape.{sizes_only}
 use Rattle.magnetar_spartan.proofs.StageLaws.{finish-is, finish-back}
-use borrow.Author.Rules.{rules}
 use Rattle.magnetar_spartan.proofs.stages.finish.Goals as goal
 
 pub returns-then-n-ne0 : goal.returns-then-n-ne0

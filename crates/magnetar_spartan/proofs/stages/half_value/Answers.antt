@@ -1,6 +1,5 @@
 use mathlib.Core.Path.{◌∙◌}
 use Rattle.magnetar_spartan.proofs.PublicValue.{front-dot, front-behind}
-use borrow.Author.Rules.{rules}
 use Rattle.magnetar_spartan.proofs.stages.half_value.Goals as goal
 
 pub returns : goal.returns

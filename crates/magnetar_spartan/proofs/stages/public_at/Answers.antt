@@ -3,7 +3,6 @@ use Prim.Native.Nat.{ℕ, ◌*◌}
 use Rattle.magnetar_field.proofs.Tabulation.{tabulate-length}
 use Rattle.magnetar_spartan.specs.Stages.{drawn_back}
 use Rattle.magnetar_spartan.proofs.PublicValue.{same_point}
-use borrow.Author.Rules.{rules}
 use Rattle.magnetar_spartan.proofs.stages.public_at.Goals as goal
 
 pub returns : goal.returns

@@ -1,6 +1,5 @@
 use native.Mathlib.Omega.{arith}
 use borrow.Author.Tests.{ne_eqb}
-use borrow.Author.Rules.{rules}
 use Rattle.magnetar_spartan.proofs.stages.public_unless.Goals as goal
 
 pub returns-then-n-ne0 : goal.returns-then-n-ne0

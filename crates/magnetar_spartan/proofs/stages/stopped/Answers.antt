@@ -1,6 +1,5 @@
 use mathlib.Core.Path.{refl, ap}
 use Rattle.magnetar_hash.specs.declared.transcript.TranscriptAnswer.{TranscriptAnswer}
-use borrow.Author.Rules.{rules}
 use Rattle.magnetar_spartan.proofs.stages.stopped.Goals as goal
 
 pub returns : goal.returns

@@ -6,7 +6,6 @@ use Rattle.magnetar_relation.specs.RuleTests.{rule_tests}
 use Rattle.magnetar_relation.proofs.RuleLaws.{lengths-free}
 use Rattle.magnetar_spartan.specs.Outcome.{prove_refusal}
 use Rattle.magnetar_spartan.proofs.ProveRun.{turned-back, run-through, number}
-use borrow.Author.Rules.{rules}
 use Rattle.magnetar_spartan.proofs.virtual_spartan.prove_virtual_spartan.Goals as goal
 
 pub returns-then-z-ne0 : goal.returns-then-z-ne0

@@ -5,7 +5,6 @@ use Rattle.magnetar_relation.specs.Rules.{Rules, rules}
 use Rattle.magnetar_relation.specs.RuleTests.{rule_tests}
 use Rattle.magnetar_relation.proofs.RuleLaws.{lengths-free}
 use Rattle.magnetar_spartan.proofs.VerifyEnds.{verify-ends}
-use borrow.Author.Rules.{rules}
 use Rattle.magnetar_spartan.proofs.virtual_spartan.verify_virtual_spartan.Goals as goal
 
 pub returns : goal.returns
