@@ -8,8 +8,7 @@ use Rattle.magnetar_spartan.proofs.combine.value_at.Goals as goal
 pub returns : goal.returns
 returns c =
     let x = c.args in
-    let R : Rules =
-        rules x.m x.q [] x.sh x.row.now x.col.now x.lo.now x.hi.now in
+    let R : Rules = rules x.m x.q [] x.sh x.row.now x.col.now x.lo.now x.hi.now in
     let e : valued c.eval_m_combo-r.result c.eval_m_combo-r.new.s ≡ value_at x.n R x.d x.s.now = c.eval_m_combo-r.ensures ∙ rw (
       c.inner_point-y.ensures,
       c.fld_point-pf.ensures,

@@ -9,15 +9,13 @@ use Rattle.magnetar_spartan.proofs.products.product.Goals as goal
 pub returns-then-p-s : goal.returns-then-p-s
 returns-then-p-s c =
     let x = c.args in
-    let R : Rules =
-        rules x.m x.q [] x.sh x.row.now x.col.now x.lo.now x.hi.now in
+    let R : Rules = rules x.m x.q [] x.sh x.row.now x.col.now x.lo.now x.hi.now in
     let e = c.part_of-h.ensures ∙ ap (part_of x.k x.q x.sh) c.entries_held-held.ensures.0 in
     λ ok. there x.k R x.packed.now x.x.now x.s.now ok _ e _ c.products_in-done.ensures.products
 
 pub returns-else-p-s : goal.returns-else-p-s
 returns-else-p-s c =
     let x = c.args in
-    let R : Rules =
-        rules x.m x.q [] x.sh x.row.now x.col.now x.lo.now x.hi.now in
+    let R : Rules = rules x.m x.q [] x.sh x.row.now x.col.now x.lo.now x.hi.now in
     let e = c.part_of-h.ensures ∙ ap (part_of x.k x.q x.sh) c.entries_held-held.ensures.0 in
     λ ok. absurd (no_room x.k R x.packed.now x.x.now x.s.now ok _ e (omega arith))

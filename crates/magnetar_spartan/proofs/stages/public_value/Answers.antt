@@ -21,7 +21,8 @@ returns-then-q-h c =
 pub returns-then-n-ne0 : goal.returns-then-n-ne0
 returns-then-n-ne0 c =
     let x = c.args in
-    public-refused x.m x.q x.x.now x.point.now x.y x.s.now c.fold_public_in-n.result _ (omega (arith, c.if-q-h.false, c.if-m-h.false)) c.fold_public_in-n.ensures.answer c.if-n-ne0.true c.fold_public_in-n.ensures.folded
+    public-refused x.m x.q x.x.now x.point.now x.y x.s.now c.fold_public_in-n.result _ (omega (arith, c.if-q-h.false, c.if-m-h.false))
+    c.fold_public_in-n.ensures.answer c.if-n-ne0.true c.fold_public_in-n.ensures.folded
 
 pub slice_bounds-half_value-end : goal.slice_bounds-half_value-end
 slice_bounds-half_value-end c =

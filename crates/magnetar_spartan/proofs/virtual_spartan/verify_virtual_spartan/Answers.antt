@@ -10,12 +10,12 @@ use Rattle.magnetar_spartan.proofs.virtual_spartan.verify_virtual_spartan.Goals 
 pub returns : goal.returns
 returns c =
     let x = c.args in
-    let R : Rules =
-        rules x.m x.q x.lens.now x.sh x.row.now x.col.now x.lo.now x.hi.now in
+    let R : Rules = rules x.m x.q x.lens.now x.sh x.row.now x.col.now x.lo.now x.hi.now in
     let number : c.refused.result ≡ first_refusal 0 (rule_tests R) =
-        c.refused.ensures ∙ ap (first_refusal 0) (lengths-free x.m x.q x.lens.now x.sh x.row.now x.col.now x.lo.now x.hi.now) in
+    c.refused.ensures ∙ ap (first_refusal 0) (lengths-free x.m x.q x.lens.now x.sh x.row.now x.col.now x.lo.now x.hi.now) in
     let e = verify-ends R x.x.now x.proof.now x.t x.claims.now x.scratch.now c.refused.result c.verify-z.result
-    number c.verify-z.ensures c.begin-g.result (value c.value_at-v.result) (value c.public_unless-p.result) c.value_at-v.new.s c.public_unless-p.new.s c.clear_unless.new.s c.finish.result c.finish.new.claims
+    number c.verify-z.ensures c.begin-g.result (value c.value_at-v.result) (value c.public_unless-p.result) c.value_at-v.new.s
+    c.public_unless-p.new.s c.clear_unless.new.s c.finish.result c.finish.new.claims
     (record {
       begun = c.begin-g.ensures;
       table = rw (← c.code_of-k.ensures, ← c.draws_of-d.ensures) c.value_at-v.ensures;
