@@ -2,7 +2,6 @@ use mathlib.Core.Path.{◌∙◌}
 use mathlib.Core.List.{[]}
 use Rattle.magnetar_relation.specs.Rules.{rules}
 use Rattle.magnetar_spartan.proofs.ProductLaws.{six-left}
-use borrow.Author.Rules.{rules}
 use Rattle.magnetar_spartan.proofs.products.products.Goals as goal
 
 pub returns : goal.returns
