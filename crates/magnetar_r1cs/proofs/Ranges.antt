@@ -12,7 +12,7 @@ use lib.ListN.{length, get_or, take, drop, length-drop, drop_of_length-le}
 use lib.Seq.{take_all, length-take-le}
 use borrow.Author.Tests.{ltb-true, ltb-false, le-ltb, le-leb, eq-eqb}
 use Rattle.magnetar_field.specs.Sizes.{log₂}
-use Rattle.magnetar_field.specs.Words.{elements, words}
+use Rattle.magnetar_field.specs.Words.{words}
 use Rattle.magnetar_layout.specs.Tests.{or_refuse, first_refusal, room_test, is_size, Sized}
 use Rattle.magnetar_layout.proofs.FirstRefusal.{first-refusal-front, first-refusal-late, turned, done}
 use Rattle.magnetar_layout.proofs.Room.{room-short, room-enough}

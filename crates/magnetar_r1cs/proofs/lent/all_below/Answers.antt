@@ -1,11 +1,7 @@
-use Rattle.magnetar_layout.proofs.EveryLaws.{Left, every_more, every-not, every-end}
+use Rattle.magnetar_layout.proofs.EveryLaws.{every_more, every-not, every-end}
 use mathlib.Core.Path.{refl}
-use Prim.Native.Nat.{◌-◌}
 use native.Mathlib.Omega.{arith}
-use lib.Dec.{ltb}
-use lib.ListN.{length}
 use borrow.Author.Tests.{lt-ltb, le-ltb}
-use borrow.Author.Rules.{rules}
 use Rattle.magnetar_r1cs.proofs.lent.all_below.Goals as goal
 
 pub loop-i-init : goal.loop-i-init

@@ -1,4 +1,3 @@
-use borrow.Author.Rules.{rules}
 use Rattle.magnetar_r1cs.proofs.lent.lone.Goals as goal
 
 pub returns : goal.returns

@@ -1,6 +1,5 @@
 use mathlib.Core.Path.{sym}
 use Rattle.magnetar_layout.proofs.FirstRefusal.{note-kept}
-use borrow.Author.Rules.{rules}
 use Rattle.magnetar_r1cs.proofs.lent.places.Goals as goal
 
 pub returns-then-z-ne0 : goal.returns-then-z-ne0

@@ -2,7 +2,6 @@ use mathlib.Core.Path.{sym}
 use native.Mathlib.Omega.{arith}
 use Rattle.magnetar_matrix.proofs.TableLaws.{added-zero}
 use Rattle.magnetar_r1cs.proofs.Flipped.{flip-none, flip-bit, flip_one}
-use borrow.Author.Rules.{rules}
 use Rattle.magnetar_r1cs.proofs.masks.add_flip.Goals as goal
 
 pub returns-then-lo-eq0 : goal.returns-then-lo-eq0

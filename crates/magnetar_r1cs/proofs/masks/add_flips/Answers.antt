@@ -1,10 +1,7 @@
-use mathlib.Core.Path.{◌≡◌, refl}
-use Prim.Native.Nat.{◌-◌}
+use mathlib.Core.Path.{refl}
 use native.Mathlib.Omega.{arith}
-use lib.ListN.{length, get_or}
-use Rattle.magnetar_matrix.specs.Lent.{entries_of}
-use Rattle.magnetar_r1cs.specs.Flips.{flip}
-use Rattle.magnetar_matrix.proofs.Walked.{Walked, walked_start, walked_more, walked_end, entry_at, entries-end}
+use lib.ListN.{get_or}
+use Rattle.magnetar_matrix.proofs.Walked.{walked_start, walked_more, walked_end, entry_at, entries-end}
 use Rattle.magnetar_r1cs.proofs.Flipped.{flip-entry}
 use borrow.Author.Rules.{rules}
 use Rattle.magnetar_r1cs.proofs.masks.add_flips.Goals as goal

@@ -1,12 +1,9 @@
-use mathlib.Core.Path.{◌≡◌, refl}
+use mathlib.Core.Path.{◌≡◌}
 use Prim.Native.Nat.{◌-◌}
-use native.Mathlib.Omega.{arith}
-use lib.ListN.{length, get_or}
+use lib.ListN.{length}
 use Rattle.magnetar_matrix.specs.Lent.{entries_of}
 use Rattle.magnetar_r1cs.specs.Flips.{flip}
-use Rattle.magnetar_matrix.proofs.Walked.{Walked, walked_start, walked_more, walked_end, entry_at, entries-end}
-use Rattle.magnetar_r1cs.proofs.Flipped.{flip-entry}
-use borrow.Author.Rules.{rules}
+use Rattle.magnetar_matrix.proofs.Walked.{Walked}
 use Rattle.magnetar_r1cs.proofs.masks.add_flips.Given as goal
 
 abbrev pub invariant-loop-i : goal.invariant-loop-i

@@ -1,9 +1,8 @@
 use borrow.Rule.Slice.PartMut.{same_len_mid}
-use mathlib.Core.Path.{◌≡◌, refl, ◌∙◌}
-use Prim.Native.Nat.{◌+◌, ◌*◌, ◌-◌, ◌≤◌}
+use mathlib.Core.Path.{refl, ◌∙◌}
+use Prim.Native.Nat.{◌+◌, ◌*◌, ◌-◌}
 use native.Mathlib.Omega.{arith}
-use lib.ListN.{length, take}
-use Rattle.magnetar_matrix.specs.Sum.{blocks}
+use lib.ListN.{length}
 use Rattle.magnetar_matrix.specs.Lent.{entries_of}
 use Rattle.magnetar_r1cs.specs.Flips.{flip_block}
 use Rattle.magnetar_matrix.proofs.Blocks.{Block, block_of, mid-length, blocks_start, blocks_more, blocks_end}

@@ -1,14 +1,9 @@
-use borrow.Rule.Slice.PartMut.{same_len_mid}
-use mathlib.Core.Path.{◌≡◌, refl, ◌∙◌}
-use Prim.Native.Nat.{◌+◌, ◌*◌, ◌-◌, ◌≤◌}
-use native.Mathlib.Omega.{arith}
+use mathlib.Core.Path.{◌≡◌}
+use Prim.Native.Nat.{◌*◌, ◌-◌, ◌≤◌}
 use lib.ListN.{length, take}
 use Rattle.magnetar_matrix.specs.Sum.{blocks}
 use Rattle.magnetar_matrix.specs.Lent.{entries_of}
 use Rattle.magnetar_r1cs.specs.Flips.{flip_block}
-use Rattle.magnetar_matrix.proofs.Blocks.{Block, block_of, mid-length, blocks_start, blocks_more, blocks_end}
-use Rattle.magnetar_r1cs.proofs.Flipped.{rows_of}
-use borrow.Author.Rules.{rules}
 use Rattle.magnetar_r1cs.proofs.masks.mask_all.Given as goal
 
 abbrev pub invariant-loop-low : goal.invariant-loop-low

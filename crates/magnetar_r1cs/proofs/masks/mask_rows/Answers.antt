@@ -1,11 +1,9 @@
 use mathlib.Core.Path.{◌≡◌, refl, sym, ap, ◌∙◌}
-use Prim.Native.Nat.{ℕ, ◌+◌, ◌*◌, ◌-◌, ◌≤◌, ◌<◌}
+use Prim.Native.Nat.{ℕ, ◌+◌, ◌*◌, ◌<◌}
 use native.Mathlib.Omega.{arith}
 use lib.ListN.{length, replicate}
-use Rattle.magnetar_field.specs.Tabulate.{tabulate}
-use Rattle.magnetar_matrix.specs.Packed.{login_words}
 use Rattle.magnetar_matrix.specs.Lent.{entries_of}
-use Rattle.magnetar_r1cs.specs.Flips.{flip_total, flip_block}
+use Rattle.magnetar_r1cs.specs.Flips.{flip_block}
 use Rattle.magnetar_matrix.proofs.LoginParts.{Part, part-of, words-most}
 use Rattle.magnetar_r1cs.proofs.Flipped.{rows_start, rows_more, login-below}
 use borrow.Author.Rules.{rules}

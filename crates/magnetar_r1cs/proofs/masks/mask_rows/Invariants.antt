@@ -1,14 +1,10 @@
-use mathlib.Core.Path.{◌≡◌, refl, sym, ap, ◌∙◌}
-use Prim.Native.Nat.{ℕ, ◌+◌, ◌*◌, ◌-◌, ◌≤◌, ◌<◌}
-use native.Mathlib.Omega.{arith}
-use lib.ListN.{length, replicate}
+use mathlib.Core.Path.{◌≡◌}
+use Prim.Native.Nat.{◌-◌, ◌≤◌}
+use lib.ListN.{length}
 use Rattle.magnetar_field.specs.Tabulate.{tabulate}
 use Rattle.magnetar_matrix.specs.Packed.{login_words}
 use Rattle.magnetar_matrix.specs.Lent.{entries_of}
-use Rattle.magnetar_r1cs.specs.Flips.{flip_total, flip_block}
-use Rattle.magnetar_matrix.proofs.LoginParts.{Part, part-of, words-most}
-use Rattle.magnetar_r1cs.proofs.Flipped.{rows_start, rows_more, login-below}
-use borrow.Author.Rules.{rules}
+use Rattle.magnetar_r1cs.specs.Flips.{flip_total}
 use Rattle.magnetar_r1cs.proofs.masks.mask_rows.Given as goal
 
 abbrev pub invariant-loop-t : goal.invariant-loop-t

@@ -13,7 +13,6 @@ use Rattle.magnetar_layout.specs.Tests.{Tests, first_refusal, lone_tests, length
 use Rattle.magnetar_r1cs.specs.Entries.{apply_refusal}
 use Rattle.magnetar_layout.proofs.FirstRefusal.{first-refusal-front, first-refusal-late, first-refusal-clear, turned, done}
 use Rattle.magnetar_r1cs.proofs.Lone.{lone}
-use borrow.Author.Rules.{rules}
 use Rattle.magnetar_r1cs.proofs.r1cs.apply.Goals as goal
 
 pub returns-then-n-ne0 : goal.returns-then-n-ne0

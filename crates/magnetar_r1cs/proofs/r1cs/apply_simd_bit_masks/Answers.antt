@@ -17,7 +17,6 @@ use Rattle.magnetar_r1cs.specs.Entries.{matrix_tests, mask_tests, mask_count, ma
 use Rattle.magnetar_r1cs.proofs.Lone.{Batched, masked}
 use Rattle.magnetar_matrix.proofs.Blocks.{product-fits}
 use Rattle.magnetar_r1cs.proofs.Flipped.{Powers, powers-of, masks-in-front}
-use borrow.Author.Rules.{rules}
 use Rattle.magnetar_r1cs.proofs.r1cs.apply_simd_bit_masks.Goals as goal
 
 record Fits (m : Lent) (q w v : ℕ) : Type 0 where

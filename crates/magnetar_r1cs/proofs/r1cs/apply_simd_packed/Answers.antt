@@ -15,7 +15,6 @@ use Rattle.magnetar_r1cs.proofs.Lone.{Batched, batched, batched-public}
 use Rattle.magnetar_matrix.proofs.Blocks.{product-fits}
 use Rattle.magnetar_r1cs.proofs.Split.{packed-is}
 use Rattle.magnetar_layout.proofs.Room.{room-short, room-enough}
-use borrow.Author.Rules.{rules}
 use Rattle.magnetar_r1cs.proofs.r1cs.apply_simd_packed.Goals as goal
 
 pub returns-then-n-ne0 : goal.returns-then-n-ne0

@@ -1,14 +1,13 @@
-use mathlib.Core.Path.{◌≡◌, sym, ◌∙◌}
+use mathlib.Core.Path.{sym, ◌∙◌}
 use mathlib.Core.List.{◌++◌}
 use Prim.Native.Nat.{◌*◌}
 use native.Mathlib.Omega.{arith}
 use lib.ListN.{length}
-use Rattle.magnetar_layout.specs.Tests.{Tests, first_refusal, matrix_column_tests, counted, placed}
+use Rattle.magnetar_layout.specs.Tests.{Tests, matrix_column_tests, counted, placed}
 use Rattle.magnetar_layout.proofs.FirstRefusal.{first-refusal-front, first-refusal-late}
 use Rattle.magnetar_matrix.specs.Lent.{Lent, lent}
 use Rattle.magnetar_r1cs.specs.Entries.{logins_tests}
 use Rattle.magnetar_r1cs.proofs.Lone.{logins-clear}
-use borrow.Author.Rules.{rules}
 use Rattle.magnetar_r1cs.proofs.r1cs.batch_refusal.Goals as goal
 
 pub returns-then-n-ne0 : goal.returns-then-n-ne0

@@ -1,5 +1,4 @@
 use Rattle.magnetar_r1cs.proofs.Split.{flag_is}
-use borrow.Author.Rules.{rules}
 use Rattle.magnetar_r1cs.proofs.r1cs.bit_valued.Goals as goal
 
 pub returns-then-all_bits : goal.returns-then-all_bits

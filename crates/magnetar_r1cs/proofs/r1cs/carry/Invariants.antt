@@ -1,10 +1,7 @@
-use mathlib.Core.Path.{◌≡◌, refl, ◌∙◌}
+use mathlib.Core.Path.{◌≡◌}
 use Prim.Native.Nat.{◌+◌, ◌-◌, ◌≤◌}
-use native.Mathlib.Omega.{arith}
-use lib.ListN.{length, get_or, length-set}
-use lib.Seq.{paste-zero}
-use Rattle.magnetar_matrix.proofs.Carried.{carried_to, carry-more, carry-full, carry-short}
-use borrow.Author.Rules.{rules}
+use lib.ListN.{length}
+use Rattle.magnetar_matrix.proofs.Carried.{carried_to}
 use Rattle.magnetar_r1cs.proofs.r1cs.carry.Given as goal
 
 abbrev pub invariant-loop-i : goal.invariant-loop-i

@@ -1,6 +1,5 @@
 use native.Mathlib.Omega.{arith}
 use Rattle.magnetar_r1cs.proofs.Ranges.{entries-length}
-use borrow.Author.Rules.{rules}
 use Rattle.magnetar_r1cs.proofs.r1cs.entries_held.Goals as goal
 
 pub returns : goal.returns

@@ -16,7 +16,6 @@ use Rattle.magnetar_r1cs.proofs.Lone.{Lone, lone}
 use Rattle.magnetar_r1cs.proofs.Points.{point-of, log-most}
 use Rattle.magnetar_matrix.specs.Matrix.{mle_at}
 use Rattle.magnetar_r1cs.specs.Entries.{at_refusal}
-use borrow.Author.Rules.{rules}
 use Rattle.magnetar_r1cs.proofs.r1cs.eval_mle_at.Goals as goal
 
 record Fits (rows cols : ℕ) (r c s : List ℕ) : Type 0 where

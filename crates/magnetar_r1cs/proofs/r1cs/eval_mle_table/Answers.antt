@@ -1,7 +1,7 @@
 use Rattle.magnetar_r1cs.proofs.Lone.{flipped}
 use mathlib.Core.Path.{◌≡◌, refl, sym, ◌∙◌}
 use mathlib.Core.List.{List, ◌++◌}
-use Prim.Native.Nat.{ℕ, ◌+◌, ◌*◌, ◌≤◌}
+use Prim.Native.Nat.{ℕ, ◌*◌, ◌≤◌}
 use native.Mathlib.Omega.{arith}
 use lib.ListN.{length}
 use lib.Seq.{length-take-le}
@@ -16,7 +16,6 @@ use Rattle.magnetar_r1cs.proofs.Points.{point-of, log-most}
 use Rattle.magnetar_matrix.specs.Matrix.{times, times_at, transpose, mle_table}
 use Rattle.magnetar_r1cs.specs.Entries.{table_refusal}
 use Rattle.magnetar_matrix.proofs.Walked.{entries-swapped}
-use borrow.Author.Rules.{rules}
 use Rattle.magnetar_r1cs.proofs.r1cs.eval_mle_table.Goals as goal
 
 record Fits (rows cols : ℕ) (p o s : List ℕ) : Type 0 where

@@ -4,7 +4,6 @@ use borrow.Author.Tests.{ne_eqb}
 use Rattle.magnetar_matrix.specs.Matrix.{binary}
 use Rattle.magnetar_r1cs.specs.Entries.{binary_refusal}
 use Rattle.magnetar_r1cs.proofs.Lone.{lone}
-use borrow.Author.Rules.{rules}
 use Rattle.magnetar_r1cs.proofs.r1cs.is_binary.Goals as goal
 
 pub returns-then-n-ne0 : goal.returns-then-n-ne0

@@ -1,16 +1,13 @@
-use mathlib.Core.Path.{◌≡◌, sym, ◌∙◌}
+use mathlib.Core.Path.{sym}
 use mathlib.Core.List.{List}
-use Prim.Native.Nat.{ℕ, ◌*◌, ◌≤◌}
+use Prim.Native.Nat.{ℕ, ◌*◌}
 use native.Mathlib.Omega.{arith}
-use lib.ListN.{length}
 use lib.Seq.{length-take-le}
 use Rattle.magnetar_field.specs.Words.{elements, words}
 use Rattle.magnetar_matrix.specs.Matrix.{row_total}
 use Rattle.magnetar_matrix.specs.Lent.{entries_of}
 use Rattle.magnetar_matrix.specs.Table.{raised, bit_share}
 use Rattle.magnetar_matrix.proofs.Carried.{after-laid}
-use borrow.Author.Rules.{rules}
-use Rattle.magnetar_r1cs.proofs.r1cs.login_product.Reads as reads
 use Rattle.magnetar_r1cs.proofs.r1cs.login_product.Goals as goal
 
 pub slice_bounds-bit_part-end-2 : goal.slice_bounds-bit_part-end-2

@@ -10,7 +10,6 @@ use Rattle.magnetar_layout.proofs.SizeLaws.{not-bad}
 use Rattle.magnetar_matrix.proofs.LoginParts.{product-most, words-most}
 use Rattle.magnetar_matrix.proofs.PublicParts.{public-most}
 use Rattle.magnetar_matrix.proofs.Blocks.{product-fits}
-use borrow.Author.Rules.{rules}
 use Rattle.magnetar_r1cs.proofs.r1cs.logins_refusal.Goals as goal
 
 record Small (q w : ℕ) : Type 0 where
@@ -78,7 +77,7 @@ overflow_mul-q-2 c =
     let z = not-bad k.0 in
     record { least = omega (arith, z.low); half = omega (arith, z.high); logins = (not-bad k.1.0).high } in
     let k = small in
-    omega (arith, public-most c.args.q _ k.logins k.half)
+    omega (arith, public-most c.args.q _ k.logins k.half, k.half)
 
 pub returns-then-z-ne0-2 : goal.returns-then-z-ne0-2
 returns-then-z-ne0-2 c =

@@ -10,7 +10,6 @@ use Rattle.magnetar_layout.proofs.SizeLaws.{not-bad}
 use Rattle.magnetar_matrix.specs.Lent.{Lent, lent}
 use Rattle.magnetar_matrix.proofs.LoginParts.{product-most, words-most}
 use Rattle.magnetar_matrix.proofs.Blocks.{product-fits}
-use borrow.Author.Rules.{rules}
 use Rattle.magnetar_r1cs.proofs.r1cs.matrix_refusal.Goals as goal
 
 record Small (q w : ℕ) : Type 0 where

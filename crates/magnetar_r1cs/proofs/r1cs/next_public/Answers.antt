@@ -1,16 +1,13 @@
-use mathlib.Core.Path.{◌≡◌, sym, ap, ◌∙◌}
-use mathlib.Core.List.{List}
-use Prim.Native.Nat.{ℕ, ◌-◌, ◌*◌, ◌/◌, ◌≤◌}
+use mathlib.Core.Path.{◌≡◌, sym, ◌∙◌}
+use Prim.Native.Nat.{◌*◌, ◌≤◌}
 use native.Mathlib.Omega.{arith}
-use lib.ListN.{length, take, drop, length-drop}
-use lib.Seq.{length-take-le}
+use lib.ListN.{length, take, drop}
 use Rattle.magnetar_field.specs.Words.{elements, words}
 use Rattle.magnetar_matrix.specs.Lent.{entries_of}
 use Rattle.magnetar_matrix.specs.Table.{public_rows}
 use Rattle.magnetar_matrix.proofs.PublicParts.{repeated-is}
 use Rattle.magnetar_r1cs.proofs.Unread.{rows-unread}
 use Rattle.magnetar_matrix.proofs.Carried.{laid_none, laid-front, laid-put, rows-put}
-use borrow.Author.Rules.{rules}
 use Rattle.magnetar_r1cs.proofs.r1cs.next_public.Goals as goal
 
 pub returns-then-out-e : goal.returns-then-out-e

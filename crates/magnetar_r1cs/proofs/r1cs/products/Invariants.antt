@@ -1,18 +1,10 @@
-use mathlib.Core.Path.{◌≡◌, refl, sym, ◌∙◌}
-use Prim.Native.Nat.{ℕ, ◌*◌, ◌≤◌, ◌-◌}
-use native.Mathlib.Nat.{zero-mul, zero-add}
-use native.Mathlib.Omega.{arith}
-use lib.ListN.{length, take}
-use lib.Seq.{length-take-le, length_front}
-use borrow.Rule.Slice.PartMut.{same_len_mid}
+use mathlib.Core.Path.{◌≡◌}
+use Prim.Native.Nat.{◌*◌, ◌≤◌, ◌-◌}
+use lib.ListN.{length}
 use Rattle.magnetar_matrix.specs.Packed.{login_words, public_words}
 use Rattle.magnetar_matrix.specs.Lent.{entries_of}
 use Rattle.magnetar_matrix.specs.Table.{login_block}
-use Rattle.magnetar_matrix.proofs.LoginParts.{Part, part-of, part-ends, words-most}
-use Rattle.magnetar_matrix.proofs.PublicParts.{PublicPart, public-part}
-use Rattle.magnetar_matrix.proofs.Blocks.{Block, block_of}
-use Rattle.magnetar_matrix.proofs.Carried.{Filling, public_block, filling-start, filling-end, rest-long, next_fits, lent-public, next-login, first_part}
-use borrow.Author.Rules.{rules}
+use Rattle.magnetar_matrix.proofs.Carried.{Filling, public_block}
 use Rattle.magnetar_r1cs.proofs.r1cs.products.Given as goal
 
 abbrev pub invariant-loop-u : goal.invariant-loop-u

@@ -1,4 +1,4 @@
-use mathlib.Core.Path.{◌≡◌, sym, ap, ◌∙◌}
+use mathlib.Core.Path.{sym, ap, ◌∙◌}
 use mathlib.Core.List.{List}
 use Prim.Native.Nat.{ℕ, ◌*◌, ◌≤◌, min}
 use native.Mathlib.Omega.{arith}
@@ -7,7 +7,6 @@ use lib.Seq.{length-take-le}
 use Rattle.magnetar_matrix.proofs.Blocks.{product-fits}
 use Rattle.magnetar_r1cs.proofs.Lone.{Logins, logins-clear}
 use Rattle.magnetar_r1cs.proofs.Ranges.{parts-equal, range-refused, range-short, range-done}
-use borrow.Author.Rules.{rules}
 use Rattle.magnetar_r1cs.proofs.r1cs.products_in.Goals as goal
 
 -- the range ends within each slice, of which none is long

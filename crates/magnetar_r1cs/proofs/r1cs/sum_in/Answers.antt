@@ -7,7 +7,6 @@ use mathlib.Core.Path.{sym, ap, ◌∙◌}
 use mathlib.Core.List.{List}
 use Rattle.magnetar_multilinear.specs.Entries.{eq_out}
 use Rattle.magnetar_r1cs.proofs.Points.{eq-built}
-use borrow.Author.Rules.{rules}
 use Rattle.magnetar_r1cs.proofs.r1cs.sum_in.Goals as goal
 
 pub slice_bounds-build-end-2 : goal.slice_bounds-build-end-2

@@ -1,7 +1,6 @@
 use mathlib.Core.Path.{sym}
 use native.Mathlib.Omega.{arith}
 use Rattle.magnetar_matrix.proofs.TableLaws.{added-in, added-zero, bit-some, bit-none}
-use borrow.Author.Rules.{rules}
 use Rattle.magnetar_r1cs.proofs.walk.add_bit_share.Goals as goal
 
 pub returns-then-c-w : goal.returns-then-c-w

@@ -1,11 +1,6 @@
-use mathlib.Core.Path.{◌≡◌, refl}
-use Prim.Native.Nat.{◌-◌}
+use mathlib.Core.Path.{refl}
 use native.Mathlib.Omega.{arith}
-use lib.ListN.{length}
-use Rattle.magnetar_field.specs.Words.{elements}
-use Rattle.magnetar_matrix.specs.Lent.{entries_of}
-use Rattle.magnetar_matrix.proofs.Walked.{Walked, walked_start, walked_more, walked_end, entry_at, entries-end}
-use Rattle.magnetar_matrix.specs.Table.{bit_share}
+use Rattle.magnetar_matrix.proofs.Walked.{walked_start, walked_more, walked_end, entry_at, entries-end}
 use borrow.Author.Rules.{rules}
 use Rattle.magnetar_r1cs.proofs.walk.add_bits.Goals as goal
 

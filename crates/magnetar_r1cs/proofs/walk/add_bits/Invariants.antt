@@ -1,12 +1,10 @@
-use mathlib.Core.Path.{◌≡◌, refl}
+use mathlib.Core.Path.{◌≡◌}
 use Prim.Native.Nat.{◌-◌}
-use native.Mathlib.Omega.{arith}
 use lib.ListN.{length}
 use Rattle.magnetar_field.specs.Words.{elements}
 use Rattle.magnetar_matrix.specs.Lent.{entries_of}
-use Rattle.magnetar_matrix.proofs.Walked.{Walked, walked_start, walked_more, walked_end, entry_at, entries-end}
+use Rattle.magnetar_matrix.proofs.Walked.{Walked}
 use Rattle.magnetar_matrix.specs.Table.{bit_share}
-use borrow.Author.Rules.{rules}
 use Rattle.magnetar_r1cs.proofs.walk.add_bits.Given as goal
 
 abbrev pub invariant-loop-i : goal.invariant-loop-i

@@ -1,6 +1,5 @@
 use Rattle.magnetar_matrix.specs.Matrix.{share}
 use Rattle.magnetar_matrix.proofs.TableLaws.{added-in}
-use borrow.Author.Rules.{rules}
 use Rattle.magnetar_r1cs.proofs.walk.add_share.Goals as goal
 
 pub returns : goal.returns

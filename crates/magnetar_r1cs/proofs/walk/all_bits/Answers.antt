@@ -1,13 +1,6 @@
 use mathlib.Core.Path.{refl, sym, ◌∙◌}
-use Prim.Native.Nat.{◌-◌}
 use native.Mathlib.Omega.{arith}
-use lib.ListN.{length}
-use borrow.Author.Tests.{not-true, not-false}
-use Rattle.magnetar_matrix.specs.Matrix.{is_bit}
-use Rattle.magnetar_matrix.specs.Lent.{entries_of}
-use Rattle.magnetar_layout.proofs.EveryLaws.{Left}
 use Rattle.magnetar_matrix.proofs.Walked.{tested-more, tested-not, tested-end, entry_at, entries-end}
-use borrow.Author.Rules.{rules}
 use Rattle.magnetar_r1cs.proofs.walk.all_bits.Goals as goal
 
 pub loop-i-init : goal.loop-i-init

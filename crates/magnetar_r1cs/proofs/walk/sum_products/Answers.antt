@@ -1,15 +1,11 @@
 use lib.Dec.{ltb}
 use borrow.Author.Tests.{ltb-true}
 use Rattle.magnetar_layout.proofs.EveryLaws.{every-at}
-use Prim.Native.Nat.{◌-◌, ◌<◌}
+use Prim.Native.Nat.{◌<◌}
 use native.Mathlib.Omega.{arith}
-use lib.ListN.{length, get_or}
-use Rattle.magnetar_field.specs.Gf128.{value}
-use Rattle.magnetar_field.specs.Words.{elements}
+use lib.ListN.{get_or}
 use Rattle.magnetar_matrix.specs.Table.{cross}
-use Rattle.magnetar_matrix.specs.Lent.{entries_of}
-use Rattle.magnetar_matrix.proofs.Walked.{Summed, summed-start, summed-more, summed-end, entry_at, entries-end}
-use borrow.Author.Rules.{rules}
+use Rattle.magnetar_matrix.proofs.Walked.{summed-start, summed-more, summed-end, entry_at, entries-end}
 use Rattle.magnetar_r1cs.proofs.walk.sum_products.Goals as goal
 
 pub loop-i-init : goal.loop-i-init

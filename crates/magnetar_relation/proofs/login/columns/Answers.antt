@@ -2,8 +2,6 @@ use mathlib.Core.Path.{ap, ◌∙◌}
 use Prim.Native.Nat.{ℕ, ◌+◌}
 use Rattle.magnetar_matrix.specs.Packed.{public_words}
 use Rattle.magnetar_relation.proofs.LoginLaws.{columns-cut}
-use borrow.Author.Rules.{rules}
-use Rattle.magnetar_relation.proofs.login.columns.Reads as reads
 use Rattle.magnetar_relation.proofs.login.columns.Goals as goal
 
 pub returns : goal.returns

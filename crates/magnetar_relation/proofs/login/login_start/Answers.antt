@@ -1,6 +1,5 @@
 use native.Mathlib.Omega.{arith}
 use Rattle.magnetar_relation.proofs.LoginLaws.{start_fits, start_none, start-past, start-in}
-use borrow.Author.Rules.{rules}
 use Rattle.magnetar_relation.proofs.login.login_start.Goals as goal
 
 pub overflow_mul-a : goal.overflow_mul-a

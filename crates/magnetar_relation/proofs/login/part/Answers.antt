@@ -1,7 +1,6 @@
 use mathlib.Core.Path.{ap}
 use Prim.Native.Nat.{ℕ, ◌+◌}
 use Rattle.magnetar_relation.proofs.LoginLaws.{part_cut}
-use borrow.Author.Rules.{rules}
 use Rattle.magnetar_relation.proofs.login.part.Goals as goal
 
 pub returns : goal.returns

@@ -2,7 +2,6 @@ use mathlib.Core.Path.{◌∙◌}
 use native.Mathlib.Omega.{arith}
 use Rattle.magnetar_field.specs.Words.{elements}
 use Rattle.magnetar_relation.proofs.LoginLaws.{low_word, z-is-bit, z-is-one, z-is-public}
-use borrow.Author.Rules.{rules}
 use Rattle.magnetar_relation.proofs.login.z_of.Goals as goal
 
 pub returns-then-c-w : goal.returns-then-c-w

@@ -1,5 +1,4 @@
 use Rattle.magnetar_relation.proofs.EndLaws.{ends-made}
-use borrow.Author.Rules.{rules}
 use Rattle.magnetar_relation.proofs.range.ends_of.Goals as goal
 
 pub returns : goal.returns

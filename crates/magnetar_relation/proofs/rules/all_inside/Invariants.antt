@@ -1,12 +1,9 @@
-use Rattle.magnetar_relation.proofs.ToldLaws.{held, told_more, told-end}
-use native.Mathlib.Omega.{arith}
-use mathlib.Core.Path.{◌≡◌, refl}
+use mathlib.Core.Path.{◌≡◌}
 use mathlib.Core.Bool.{◌&&◌}
 use Prim.Native.Nat.{◌-◌}
 use lib.ListN.{drop}
 use Rattle.magnetar_matrix.specs.Lent.{entries_of}
 use Rattle.magnetar_relation.specs.EntryWalks.{lies_at, every_from}
-use borrow.Author.Rules.{rules}
 use Rattle.magnetar_relation.proofs.rules.all_inside.Given as goal
 
 abbrev pub invariant-loop-i : goal.invariant-loop-i

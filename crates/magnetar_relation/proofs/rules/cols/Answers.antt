@@ -1,4 +1,3 @@
-use borrow.Author.Rules.{rules}
 use Rattle.magnetar_relation.proofs.rules.cols.Goals as goal
 
 pub returns : goal.returns

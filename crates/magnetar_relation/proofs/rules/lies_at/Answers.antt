@@ -1,5 +1,4 @@
 use borrow.Author.Tests.{lt-ltb, le-ltb}
-use borrow.Author.Rules.{rules}
 use Rattle.magnetar_relation.proofs.rules.lies_at.Goals as goal
 
 pub returns-then-row-h : goal.returns-then-row-h

@@ -1,7 +1,3 @@
-use borrow.Author.Rules.{rules}
-use Rattle.magnetar_relation.proofs.rules.numbers.Reads as reads
-use Rattle.magnetar_relation.proofs.rules.numbers.Lts as lts
-use Rattle.magnetar_layout.proofs.tests.refuse.Reads as refuse-reads
 use Rattle.magnetar_relation.proofs.rules.numbers.Goals as goal
 
 pub returns : goal.returns

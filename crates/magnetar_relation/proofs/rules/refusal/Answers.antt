@@ -1,11 +1,10 @@
-use mathlib.Core.Path.{◌≡◌, sym, ◌∙◌}
+use mathlib.Core.Path.{sym, ◌∙◌}
 use mathlib.Core.Bool.{not}
 use mathlib.Core.List.{[], ◌∷◌, ◌++◌}
 use Rattle.magnetar_layout.specs.Tests.{Tests}
 use Rattle.magnetar_layout.proofs.FirstRefusal.{first-refusal-front, first-refusal-late}
 use Rattle.magnetar_relation.specs.RuleTests.{shape_tests, number_tests, total, rule_tests_by}
 use Rattle.magnetar_relation.proofs.RuleLaws.{Few, shapes-few}
-use borrow.Author.Rules.{rules}
 use Rattle.magnetar_relation.proofs.rules.refusal.Goals as goal
 
 pub returns-then-z-ne0 : goal.returns-then-z-ne0

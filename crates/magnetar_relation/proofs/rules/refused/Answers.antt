@@ -1,6 +1,5 @@
 use mathlib.Core.List.{[]}
 use Rattle.magnetar_relation.proofs.RuleLaws.{rules-told}
-use borrow.Author.Rules.{rules}
 use Rattle.magnetar_relation.proofs.rules.refused.Goals as goal
 
 pub returns : goal.returns

@@ -4,7 +4,6 @@ use mathlib.Core.List.{[], ◌∷◌}
 use lib.Dec.{eqb}
 use Rattle.magnetar_layout.specs.Tests.{first_refusal, is_size, Sized}
 use Rattle.magnetar_relation.proofs.RuleLaws.{number-stays, none_before, rows-passed, over}
-use borrow.Author.Rules.{rules}
 use Rattle.magnetar_relation.proofs.rules.rows.Goals as goal
 
 pub returns-then-z-ne0 : goal.returns-then-z-ne0

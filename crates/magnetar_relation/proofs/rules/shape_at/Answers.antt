@@ -1,6 +1,5 @@
 use borrow.Author.Tests.{lt-ltb, le-ltb}
 use Rattle.magnetar_relation.specs.EntryWalks.{shape_at}
-use borrow.Author.Rules.{rules}
 use Rattle.magnetar_relation.proofs.rules.shape_at.Goals as goal
 
 pub returns-then-i-t : goal.returns-then-i-t

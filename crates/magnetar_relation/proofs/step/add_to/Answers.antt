@@ -8,7 +8,6 @@ use Rattle.magnetar_field.specs.Words.{elements}
 use Rattle.magnetar_matrix.proofs.TableLaws.{added-in}
 use Rattle.magnetar_relation.specs.Steps.{added_to}
 use Rattle.magnetar_relation.proofs.TableWords.{added-words}
-use borrow.Author.Rules.{rules}
 use Rattle.magnetar_relation.proofs.step.add_to.Goals as goal
 
 pub slice_bounds-add_at-end-then-n-out : goal.slice_bounds-add_at-end-then-n-out

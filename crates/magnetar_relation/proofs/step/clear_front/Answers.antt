@@ -6,7 +6,6 @@ use Prim.Native.Nat.{◌*◌}
 use lib.ListN.{length}
 use Rattle.magnetar_relation.specs.Steps.{cleared_to}
 use Rattle.magnetar_relation.proofs.TableWords.{cleared-words}
-use borrow.Author.Rules.{rules}
 use Rattle.magnetar_relation.proofs.step.clear_front.Goals as goal
 
 pub slice_bounds-clear-end-then-n-out : goal.slice_bounds-clear-end-then-n-out

@@ -1,7 +1,6 @@
 use mathlib.Core.Path.{◌∙◌}
 use native.Mathlib.Omega.{arith}
 use Rattle.magnetar_relation.proofs.StepLaws.{between-some, between_none}
-use borrow.Author.Rules.{rules}
 use Rattle.magnetar_relation.proofs.step.get_between.Goals as goal
 
 pub returns-then-n-s : goal.returns-then-n-s

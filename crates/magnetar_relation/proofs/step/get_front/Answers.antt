@@ -3,7 +3,6 @@ use native.Mathlib.Omega.{arith}
 use lib.Seq.{length-take-le}
 use Rattle.magnetar_relation.specs.Steps.{front}
 use Rattle.magnetar_relation.proofs.StepLaws.{front-all}
-use borrow.Author.Rules.{rules}
 use Rattle.magnetar_relation.proofs.step.get_front.Goals as goal
 
 pub slice_bounds-get-end : goal.slice_bounds-get-end

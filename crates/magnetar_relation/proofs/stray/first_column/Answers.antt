@@ -1,13 +1,10 @@
 use mathlib.Core.Path.{refl}
-use Prim.Native.Nat.{ℕ, ◌*◌, ◌-◌, ◌≤◌, ◌<◌, ◌^◌}
+use Prim.Native.Nat.{ℕ, ◌<◌, ◌^◌}
 use native.Mathlib.Omega.{arith}
 use lib.Bits.{bit_and, and_lt}
 use lib.Count.{trailing_le}
-use lib.ListN.{length, get_or}
-use Rattle.magnetar_matrix.proofs.FirstRow.{Below}
-use Rattle.magnetar_relation.specs.Stray.{apart}
+use lib.ListN.{get_or}
 use Rattle.magnetar_relation.proofs.StrayLaws.{apart_more, first-common, none-common}
-use borrow.Author.Rules.{rules}
 use Rattle.magnetar_relation.proofs.stray.first_column.Goals as goal
 
 pub loop-k-init : goal.loop-k-init

@@ -1,13 +1,7 @@
-use mathlib.Core.Path.{refl}
-use Prim.Native.Nat.{ℕ, ◌*◌, ◌-◌, ◌≤◌, ◌<◌, ◌^◌}
-use native.Mathlib.Omega.{arith}
-use lib.Bits.{bit_and, and_lt}
-use lib.Count.{trailing_le}
-use lib.ListN.{length, get_or}
+use Prim.Native.Nat.{◌*◌, ◌-◌, ◌≤◌}
+use lib.ListN.{length}
 use Rattle.magnetar_matrix.proofs.FirstRow.{Below}
 use Rattle.magnetar_relation.specs.Stray.{apart}
-use Rattle.magnetar_relation.proofs.StrayLaws.{apart_more, first-common, none-common}
-use borrow.Author.Rules.{rules}
 use Rattle.magnetar_relation.proofs.stray.first_column.Given as goal
 
 abbrev pub invariant-loop-k : goal.invariant-loop-k

@@ -1,12 +1,11 @@
-use Prim.Native.Nat.{◌-◌, ◌≤◌}
+use Prim.Native.Nat.{◌≤◌}
 use native.Mathlib.Omega.{arith}
 use lib.ListN.{length}
 use Rattle.magnetar_matrix.specs.Packed.{login_words}
 use Rattle.magnetar_matrix.proofs.LoginParts.{words-most}
 use Rattle.magnetar_matrix.proofs.Verdicts.{first-le}
 use Rattle.magnetar_matrix.proofs.FirstRow.{below-start, below_more}
-use Rattle.magnetar_relation.proofs.StrayLaws.{Clear, part_length, none-past, login-clear, login-stray, all-clear}
-use borrow.Author.Rules.{rules}
+use Rattle.magnetar_relation.proofs.StrayLaws.{part_length, none-past, login-clear, login-stray, all-clear}
 use Rattle.magnetar_relation.proofs.stray.first_login.Goals as goal
 
 pub loop-u-init : goal.loop-u-init

@@ -9,7 +9,6 @@ use Rattle.magnetar_layout.proofs.SizeLaws.{not-bad}
 use Rattle.magnetar_matrix.proofs.LoginParts.{product-most, words-most}
 use Rattle.magnetar_relation.specs.Stray.{stray_refusal}
 use Rattle.magnetar_relation.proofs.StrayLaws.{sizes, stray-by, stray-early, layout-passed}
-use borrow.Author.Rules.{rules}
 use Rattle.magnetar_relation.proofs.stray.first_stray.Goals as goal
 
 -- what is known of the sizes then

@@ -1,6 +1,4 @@
-use native.Mathlib.Omega.{arith}
 use Rattle.magnetar_relation.proofs.MaskLaws.{flip-done}
-use borrow.Author.Rules.{rules}
 use Rattle.magnetar_relation.proofs.stray.flip.Goals as goal
 
 pub returns : goal.returns

@@ -1,9 +1,7 @@
 use mathlib.Core.Path.{◌≡◌, refl}
-use Prim.Native.Nat.{◌+◌, ◌-◌, ◌≤◌, ◌<◌}
+use Prim.Native.Nat.{◌+◌, ◌-◌, ◌<◌}
 use native.Mathlib.Omega.{arith}
-use lib.ListN.{length}
-use Rattle.magnetar_relation.specs.Stray.{Flipped}
-use Rattle.magnetar_relation.proofs.MaskLaws.{Left, left-start, left-next, left-fits, flip-none, flip-more}
+use Rattle.magnetar_relation.proofs.MaskLaws.{left-start, left-next, left-fits, flip-none, flip-more}
 use borrow.Author.Rules.{rules}
 use Rattle.magnetar_relation.proofs.stray.flip_run.Goals as goal
 

@@ -1,10 +1,8 @@
-use mathlib.Core.Path.{◌≡◌, refl}
-use Prim.Native.Nat.{◌+◌, ◌-◌, ◌≤◌, ◌<◌}
-use native.Mathlib.Omega.{arith}
+use mathlib.Core.Path.{◌≡◌}
+use Prim.Native.Nat.{◌+◌, ◌-◌, ◌≤◌}
 use lib.ListN.{length}
 use Rattle.magnetar_relation.specs.Stray.{Flipped}
-use Rattle.magnetar_relation.proofs.MaskLaws.{Left, left-start, left-next, left-fits, flip-none, flip-more}
-use borrow.Author.Rules.{rules}
+use Rattle.magnetar_relation.proofs.MaskLaws.{Left}
 use Rattle.magnetar_relation.proofs.stray.flip_run.Given as goal
 
 abbrev pub invariant-loop-y : goal.invariant-loop-y

@@ -4,7 +4,6 @@ use native.Mathlib.Omega.{arith}
 use lib.ListN.{length, length-replicate}
 use Rattle.magnetar_layout.proofs.Laid.{sound}
 use Rattle.magnetar_relation.proofs.MaskLaws.{all-marked, zero-mask, all-in-words, some-columns, built}
-use borrow.Author.Rules.{rules}
 use Rattle.magnetar_relation.proofs.stray.mark_outside.Goals as goal
 
 pub flip_run-requires : goal.flip_run-requires

@@ -3,7 +3,6 @@ use Prim.Native.Nat.{ℕ, suc, ◌*◌, ◌%◌, ◌^◌, ◌≤◌, ◌<◌}
 use native.Mathlib.Nat.{mod-eq_of_lt, one-mul, pow-suc}
 use native.Mathlib.Omega.{arith}
 use lib.Pow.{pow_mono, pow_pos}
-use borrow.Author.Rules.{rules}
 use Rattle.magnetar_relation.proofs.stray.ones.Goals as goal
 
 -- 1 moved up by less than 64 bits

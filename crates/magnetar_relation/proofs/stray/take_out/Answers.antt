@@ -1,10 +1,8 @@
-use mathlib.Core.Path.{◌≡◌, refl}
-use Prim.Native.Nat.{◌-◌, ◌≤◌}
+use mathlib.Core.Path.{refl}
 use native.Mathlib.Omega.{arith}
-use lib.ListN.{length}
 use Rattle.magnetar_layout.proofs.Laid.{offset-within}
 use Rattle.magnetar_layout.proofs.Places.{placed}
-use Rattle.magnetar_relation.proofs.MaskLaws.{in_words, Out, out-start, out-more, out-end, places-long, place_is}
+use Rattle.magnetar_relation.proofs.MaskLaws.{in_words, out-start, out-more, out-end, places-long, place_is}
 use borrow.Author.Rules.{rules}
 use Rattle.magnetar_relation.proofs.stray.take_out.Goals as goal
 
