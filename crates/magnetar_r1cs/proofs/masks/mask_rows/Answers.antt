@@ -24,46 +24,46 @@ loop-t-init c =
 
 pub overflow_mul-u : goal.overflow_mul-u
 overflow_mul-u c =
-    let below : let x = c.args in c.loop-t.t * x.d + x.low < x.q =
-    let s = c in login-below c.loop-t.t s.args.d s.args.low s.args.n s.args.q c.loop-t-test.true s.requires.w_bound.4 s.requires.w_bound.3 in
+    let below : c.loop-t.t * c.args.d + c.args.low < c.args.q =
+    login-below c.loop-t.t c.args.d c.args.low c.args.n c.args.q c.loop-t-test.true c.requires.w_bound.4 c.requires.w_bound.3 in
     omega (arith, below, c.requires.w_bound.1)
 
 pub overflow_add-u : goal.overflow_add-u
 overflow_add-u c =
-    let below : let x = c.args in c.loop-t.t * x.d + x.low < x.q =
-    let s = c in login-below c.loop-t.t s.args.d s.args.low s.args.n s.args.q c.loop-t-test.true s.requires.w_bound.4 s.requires.w_bound.3 in
+    let below : c.loop-t.t * c.args.d + c.args.low < c.args.q =
+    login-below c.loop-t.t c.args.d c.args.low c.args.n c.args.q c.loop-t-test.true c.requires.w_bound.4 c.requires.w_bound.3 in
     omega (arith, below, c.requires.w_bound.1)
 
 pub overflow_mul-a : goal.overflow_mul-a
 overflow_mul-a c =
-    let below : let x = c.args in c.loop-t.t * x.d + x.low < x.q =
-    let s = c in login-below c.loop-t.t s.args.d s.args.low s.args.n s.args.q c.loop-t-test.true s.requires.w_bound.4 s.requires.w_bound.3 in
+    let below : c.loop-t.t * c.args.d + c.args.low < c.args.q =
+    login-below c.loop-t.t c.args.d c.args.low c.args.n c.args.q c.loop-t-test.true c.requires.w_bound.4 c.requires.w_bound.3 in
     let words_of : let x = c.args in Part (length x.packed.now) c.login_words-k.result (c.loop-t.t * x.d + x.low) x.q =
-    let s = c in let l = c.loop-t in part-of s.args.w _ _ (l.t * s.args.d + s.args.low) _ s.requires.w_bound.1 l.invariant.3 l.invariant.2 s.requires.w_bound.5 (below) in
+    let s = c in let l = c.loop-t in part-of s.args.w _ _ (l.t * s.args.d + s.args.low) _ s.requires.w_bound.1 l.invariant.3 l.invariant.2 s.requires.w_bound.5 below in
     let p = words_of in omega (arith, p.ends, p.small)
 
 pub overflow_add-b : goal.overflow_add-b
 overflow_add-b c =
-    let below : let x = c.args in c.loop-t.t * x.d + x.low < x.q =
-    let s = c in login-below c.loop-t.t s.args.d s.args.low s.args.n s.args.q c.loop-t-test.true s.requires.w_bound.4 s.requires.w_bound.3 in
+    let below : c.loop-t.t * c.args.d + c.args.low < c.args.q =
+    login-below c.loop-t.t c.args.d c.args.low c.args.n c.args.q c.loop-t-test.true c.requires.w_bound.4 c.requires.w_bound.3 in
     let words_of : let x = c.args in Part (length x.packed.now) c.login_words-k.result (c.loop-t.t * x.d + x.low) x.q =
-    let s = c in let l = c.loop-t in part-of s.args.w _ _ (l.t * s.args.d + s.args.low) _ s.requires.w_bound.1 l.invariant.3 l.invariant.2 s.requires.w_bound.5 (below) in
+    let s = c in let l = c.loop-t in part-of s.args.w _ _ (l.t * s.args.d + s.args.low) _ s.requires.w_bound.1 l.invariant.3 l.invariant.2 s.requires.w_bound.5 below in
     let p = words_of in omega (arith, p.ends, p.small)
 
 pub offset_bounds-packed-a : goal.offset_bounds-packed-a
 offset_bounds-packed-a c =
-    let below : let x = c.args in c.loop-t.t * x.d + x.low < x.q =
-    let s = c in login-below c.loop-t.t s.args.d s.args.low s.args.n s.args.q c.loop-t-test.true s.requires.w_bound.4 s.requires.w_bound.3 in
+    let below : c.loop-t.t * c.args.d + c.args.low < c.args.q =
+    login-below c.loop-t.t c.args.d c.args.low c.args.n c.args.q c.loop-t-test.true c.requires.w_bound.4 c.requires.w_bound.3 in
     let words_of : let x = c.args in Part (length x.packed.now) c.login_words-k.result (c.loop-t.t * x.d + x.low) x.q =
-    let s = c in let l = c.loop-t in part-of s.args.w _ _ (l.t * s.args.d + s.args.low) _ s.requires.w_bound.1 l.invariant.3 l.invariant.2 s.requires.w_bound.5 (below) in
+    let s = c in let l = c.loop-t in part-of s.args.w _ _ (l.t * s.args.d + s.args.low) _ s.requires.w_bound.1 l.invariant.3 l.invariant.2 s.requires.w_bound.5 below in
     let p = words_of in omega (arith, p.ends, p.small)
 
 pub slice_bounds-add_flips-end : goal.slice_bounds-add_flips-end
 slice_bounds-add_flips-end c =
-    let below : let x = c.args in c.loop-t.t * x.d + x.low < x.q =
-    let s = c in login-below c.loop-t.t s.args.d s.args.low s.args.n s.args.q c.loop-t-test.true s.requires.w_bound.4 s.requires.w_bound.3 in
+    let below : c.loop-t.t * c.args.d + c.args.low < c.args.q =
+    login-below c.loop-t.t c.args.d c.args.low c.args.n c.args.q c.loop-t-test.true c.requires.w_bound.4 c.requires.w_bound.3 in
     let words_of : let x = c.args in Part (length x.packed.now) c.login_words-k.result (c.loop-t.t * x.d + x.low) x.q =
-    let s = c in let l = c.loop-t in part-of s.args.w _ _ (l.t * s.args.d + s.args.low) _ s.requires.w_bound.1 l.invariant.3 l.invariant.2 s.requires.w_bound.5 (below) in
+    let s = c in let l = c.loop-t in part-of s.args.w _ _ (l.t * s.args.d + s.args.low) _ s.requires.w_bound.1 l.invariant.3 l.invariant.2 s.requires.w_bound.5 below in
     let p = words_of in omega (arith, p.ends, p.small)
 
 pub add_flips-requires : goal.add_flips-requires

@@ -12,9 +12,8 @@ returns-then-n-ne0 c = let h = c.if-n-ne0.true in rw (← c.lone-n.ensures, ne_e
 
 pub all_bits-requires : goal.all_bits-requires
 all_bits-requires c =
-    let mat : Lent =
-    let x = c.args in lent x.rows x.cols x.row.now x.col.now x.lo.now x.hi.now in
-    (lone (mat) (sym c.lone-n.ensures ∙ c.if-n-ne0.false)).entries.equal
+    let mat : Lent = let x = c.args in lent x.rows x.cols x.row.now x.col.now x.lo.now x.hi.now in
+    (lone mat (sym c.lone-n.ensures ∙ c.if-n-ne0.false)).entries.equal
 
 pub returns-then-all_bits : goal.returns-then-all_bits
 unfolding binary_refusal binary matrix_of

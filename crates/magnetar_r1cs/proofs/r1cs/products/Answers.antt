@@ -62,117 +62,92 @@ loop-u-init c =
 
 pub overflow_mul-a : goal.overflow_mul-a
 overflow_mul-a c =
-    let words_of : let x = c.args in Part (length x.packed.now) c.login_words-k.result c.loop-u.u x.q =
-    let s = c in
-    let l = c.loop-u in
-    part-of s.args.w _ _ l.u _ s.requires.le_w.3 l.invariant.3 l.invariant.2 s.requires.packed_len.0 c.loop-u-test.true in
+    let words_of : Part (length c.args.packed.now) c.login_words-k.result c.loop-u.u c.args.q =
+    part-of c.args.w _ _ c.loop-u.u _ c.requires.le_w.3 c.loop-u.invariant.3 c.loop-u.invariant.2 c.requires.packed_len.0 c.loop-u-test.true in
     let p = words_of in omega (arith, p.ends, p.small)
 
 pub overflow_add-b : goal.overflow_add-b
 overflow_add-b c =
-    let words_of : let x = c.args in Part (length x.packed.now) c.login_words-k.result c.loop-u.u x.q =
-    let s = c in
-    let l = c.loop-u in
-    part-of s.args.w _ _ l.u _ s.requires.le_w.3 l.invariant.3 l.invariant.2 s.requires.packed_len.0 c.loop-u-test.true in
+    let words_of : Part (length c.args.packed.now) c.login_words-k.result c.loop-u.u c.args.q =
+    part-of c.args.w _ _ c.loop-u.u _ c.requires.le_w.3 c.loop-u.invariant.3 c.loop-u.invariant.2 c.requires.packed_len.0 c.loop-u-test.true in
     let p = words_of in omega (arith, p.ends, p.small)
 
 pub overflow_mul-c : goal.overflow_mul-c
 overflow_mul-c c =
-    let columns_of : let x = c.args in PublicPart (length x.x.now) (2 * x.w - 2) c.loop-u.u x.q =
-    let s = c in
-    public-part s.args.w _ _ c.loop-u.u _ s.requires.le_w.3 s.requires.le_w.1 refl s.requires.packed_len.1 c.loop-u-test.true in
+    let columns_of : PublicPart (length c.args.x.now) (2 * c.args.w - 2) c.loop-u.u c.args.q =
+    public-part c.args.w _ _ c.loop-u.u _ c.requires.le_w.3 c.requires.le_w.1 refl c.requires.packed_len.1 c.loop-u-test.true in
     let p = columns_of in omega (arith, p.ends, p.small)
 
 pub overflow_mul-d : goal.overflow_mul-d
 overflow_mul-d c =
-    let block : let x = c.args in Block (length c.loop-u.out) c.loop-u.u (2 * x.n) =
-    let s = c in
-    let l = c.loop-u in
-    block_of _ s.args.q (2 * s.args.n) l.u l.invariant.0 s.requires.le_w.3 (omega (arith, s.requires.le_w.5)) c.loop-u-test.true in
+    let block : Block (length c.loop-u.out) c.loop-u.u (2 * c.args.n) =
+    block_of _ c.args.q (2 * c.args.n) c.loop-u.u c.loop-u.invariant.0 c.requires.le_w.3 (omega (arith, c.requires.le_w.5)) c.loop-u-test.true in
     let p = block in omega (arith, p.ends, p.small)
 
 pub offset_bounds-packed-a : goal.offset_bounds-packed-a
 offset_bounds-packed-a c =
-    let words_of : let x = c.args in Part (length x.packed.now) c.login_words-k.result c.loop-u.u x.q =
-    let s = c in
-    let l = c.loop-u in
-    part-of s.args.w _ _ l.u _ s.requires.le_w.3 l.invariant.3 l.invariant.2 s.requires.packed_len.0 c.loop-u-test.true in
+    let words_of : Part (length c.args.packed.now) c.login_words-k.result c.loop-u.u c.args.q =
+    part-of c.args.w _ _ c.loop-u.u _ c.requires.le_w.3 c.loop-u.invariant.3 c.loop-u.invariant.2 c.requires.packed_len.0 c.loop-u-test.true in
     let p = words_of in omega (arith, p.ends, p.small)
 
 pub slice_bounds-login_product-end : goal.slice_bounds-login_product-end
 slice_bounds-login_product-end c =
-    let words_of : let x = c.args in Part (length x.packed.now) c.login_words-k.result c.loop-u.u x.q =
-    let s = c in
-    let l = c.loop-u in
-    part-of s.args.w _ _ l.u _ s.requires.le_w.3 l.invariant.3 l.invariant.2 s.requires.packed_len.0 c.loop-u-test.true in
+    let words_of : Part (length c.args.packed.now) c.login_words-k.result c.loop-u.u c.args.q =
+    part-of c.args.w _ _ c.loop-u.u _ c.requires.le_w.3 c.loop-u.invariant.3 c.loop-u.invariant.2 c.requires.packed_len.0 c.loop-u-test.true in
     let p = words_of in omega (arith, p.ends, p.small)
 
 pub offset_bounds-x-c : goal.offset_bounds-x-c
 offset_bounds-x-c c =
-    let columns_of : let x = c.args in PublicPart (length x.x.now) (2 * x.w - 2) c.loop-u.u x.q =
-    let s = c in
-    public-part s.args.w _ _ c.loop-u.u _ s.requires.le_w.3 s.requires.le_w.1 refl s.requires.packed_len.1 c.loop-u-test.true in
+    let columns_of : PublicPart (length c.args.x.now) (2 * c.args.w - 2) c.loop-u.u c.args.q =
+    public-part c.args.w _ _ c.loop-u.u _ c.requires.le_w.3 c.requires.le_w.1 refl c.requires.packed_len.1 c.loop-u-test.true in
     let p = columns_of in omega (arith, p.ends, p.small)
 
 pub slice_bounds-login_product-count-in-loop-u : goal.slice_bounds-login_product-count-in-loop-u
 slice_bounds-login_product-count-in-loop-u c =
-    let columns_of : let x = c.args in PublicPart (length x.x.now) (2 * x.w - 2) c.loop-u.u x.q =
-    let s = c in
-    public-part s.args.w _ _ c.loop-u.u _ s.requires.le_w.3 s.requires.le_w.1 refl s.requires.packed_len.1 c.loop-u-test.true in
+    let columns_of : PublicPart (length c.args.x.now) (2 * c.args.w - 2) c.loop-u.u c.args.q =
+    public-part c.args.w _ _ c.loop-u.u _ c.requires.le_w.3 c.requires.le_w.1 refl c.requires.packed_len.1 c.loop-u-test.true in
     let p = columns_of in omega (arith, p.ends, p.small)
 
 pub slice_bounds-login_product-start-in-loop-u : goal.slice_bounds-login_product-start-in-loop-u
 slice_bounds-login_product-start-in-loop-u c =
-    let columns_of : let x = c.args in PublicPart (length x.x.now) (2 * x.w - 2) c.loop-u.u x.q =
-    let s = c in
-    public-part s.args.w _ _ c.loop-u.u _ s.requires.le_w.3 s.requires.le_w.1 refl s.requires.packed_len.1 c.loop-u-test.true in
+    let columns_of : PublicPart (length c.args.x.now) (2 * c.args.w - 2) c.loop-u.u c.args.q =
+    public-part c.args.w _ _ c.loop-u.u _ c.requires.le_w.3 c.requires.le_w.1 refl c.requires.packed_len.1 c.loop-u-test.true in
     let p = columns_of in omega (arith, p.ends, p.small)
 
 pub slice_bounds-login_product-end-in-loop-u : goal.slice_bounds-login_product-end-in-loop-u
 slice_bounds-login_product-end-in-loop-u c =
-    let columns_of : let x = c.args in PublicPart (length x.x.now) (2 * x.w - 2) c.loop-u.u x.q =
-    let s = c in
-    public-part s.args.w _ _ c.loop-u.u _ s.requires.le_w.3 s.requires.le_w.1 refl s.requires.packed_len.1 c.loop-u-test.true in
+    let columns_of : PublicPart (length c.args.x.now) (2 * c.args.w - 2) c.loop-u.u c.args.q =
+    public-part c.args.w _ _ c.loop-u.u _ c.requires.le_w.3 c.requires.le_w.1 refl c.requires.packed_len.1 c.loop-u-test.true in
     let p = columns_of in omega (arith, p.ends, p.small)
 
 pub offset_bounds-out-d : goal.offset_bounds-out-d
 offset_bounds-out-d c =
-    let block : let x = c.args in Block (length c.loop-u.out) c.loop-u.u (2 * x.n) =
-    let s = c in
-    let l = c.loop-u in
-    block_of _ s.args.q (2 * s.args.n) l.u l.invariant.0 s.requires.le_w.3 (omega (arith, s.requires.le_w.5)) c.loop-u-test.true in
+    let block : Block (length c.loop-u.out) c.loop-u.u (2 * c.args.n) =
+    block_of _ c.args.q (2 * c.args.n) c.loop-u.u c.loop-u.invariant.0 c.requires.le_w.3 (omega (arith, c.requires.le_w.5)) c.loop-u-test.true in
     let p = block in omega (arith, p.ends, p.small)
 
 pub slice_bounds-login_product-count-in-loop-u-2 : goal.slice_bounds-login_product-count-in-loop-u-2
 slice_bounds-login_product-count-in-loop-u-2 c =
-    let block : let x = c.args in Block (length c.loop-u.out) c.loop-u.u (2 * x.n) =
-    let s = c in
-    let l = c.loop-u in
-    block_of _ s.args.q (2 * s.args.n) l.u l.invariant.0 s.requires.le_w.3 (omega (arith, s.requires.le_w.5)) c.loop-u-test.true in
+    let block : Block (length c.loop-u.out) c.loop-u.u (2 * c.args.n) =
+    block_of _ c.args.q (2 * c.args.n) c.loop-u.u c.loop-u.invariant.0 c.requires.le_w.3 (omega (arith, c.requires.le_w.5)) c.loop-u-test.true in
     let p = block in omega (arith, p.ends, p.small)
 
 pub slice_bounds-login_product-start-in-loop-u-2 : goal.slice_bounds-login_product-start-in-loop-u-2
 slice_bounds-login_product-start-in-loop-u-2 c =
-    let block : let x = c.args in Block (length c.loop-u.out) c.loop-u.u (2 * x.n) =
-    let s = c in
-    let l = c.loop-u in
-    block_of _ s.args.q (2 * s.args.n) l.u l.invariant.0 s.requires.le_w.3 (omega (arith, s.requires.le_w.5)) c.loop-u-test.true in
+    let block : Block (length c.loop-u.out) c.loop-u.u (2 * c.args.n) =
+    block_of _ c.args.q (2 * c.args.n) c.loop-u.u c.loop-u.invariant.0 c.requires.le_w.3 (omega (arith, c.requires.le_w.5)) c.loop-u-test.true in
     let p = block in omega (arith, p.ends, p.small)
 
 pub slice_bounds-login_product-end-in-loop-u-2 : goal.slice_bounds-login_product-end-in-loop-u-2
 slice_bounds-login_product-end-in-loop-u-2 c =
-    let block : let x = c.args in Block (length c.loop-u.out) c.loop-u.u (2 * x.n) =
-    let s = c in
-    let l = c.loop-u in
-    block_of _ s.args.q (2 * s.args.n) l.u l.invariant.0 s.requires.le_w.3 (omega (arith, s.requires.le_w.5)) c.loop-u-test.true in
+    let block : Block (length c.loop-u.out) c.loop-u.u (2 * c.args.n) =
+    block_of _ c.args.q (2 * c.args.n) c.loop-u.u c.loop-u.invariant.0 c.requires.le_w.3 (omega (arith, c.requires.le_w.5)) c.loop-u-test.true in
     let p = block in omega (arith, p.ends, p.small)
 
 pub login_product-requires : goal.login_product-requires
 login_product-requires c =
-    let block : let x = c.args in Block (length c.loop-u.out) c.loop-u.u (2 * x.n) =
-    let s = c in
-    let l = c.loop-u in
-    block_of _ s.args.q (2 * s.args.n) l.u l.invariant.0 s.requires.le_w.3 (omega (arith, s.requires.le_w.5)) c.loop-u-test.true in
+    let block : Block (length c.loop-u.out) c.loop-u.u (2 * c.args.n) =
+    block_of _ c.args.q (2 * c.args.n) c.loop-u.u c.loop-u.invariant.0 c.requires.le_w.3 (omega (arith, c.requires.le_w.5)) c.loop-u-test.true in
     let s = c in
     let x = s.args in
     let l = c.loop-u in

@@ -1,4 +1,4 @@
-use mathlib.Core.Path.{sym, ap, ◌∙◌}
+use mathlib.Core.Path.{◌≡◌, sym, ap, ◌∙◌}
 use mathlib.Core.List.{List}
 use Prim.Native.Nat.{ℕ, ◌*◌, ◌≤◌, min}
 use native.Mathlib.Omega.{arith}
@@ -16,6 +16,10 @@ record Inside (e : ℕ) (r c l h : List ℕ) : Type 0 where
   lo : e ≤ length l
   hi : e ≤ length h
 
+inside_of : {e m n : ℕ} (r c l h : List ℕ)
+    → (m ≡ n) × (m ≤ length r) × (m ≤ length c) × (m ≤ length l) × (m ≤ length h) → e ≤ m → Inside e r c l h
+inside_of r c l h k s = record { row = omega (arith, k.1, s); col = omega (arith, k.2, s); lo = omega (arith, k.3, s); hi = omega (arith, k.4, s) }
+
 pub returns-then-z-ne0 : goal.returns-then-z-ne0
 returns-then-z-ne0 c =
     let x = c.args in let all = range-refused x.row.now x.col.now x.lo.now x.hi.now x.a x.b x.n x.packed.now x.x.now x.q x.w x.out.now
@@ -24,16 +28,16 @@ returns-then-z-ne0 c =
 
 pub overflow_mul-end : goal.overflow_mul-end
 overflow_mul-end c =
-    let ok : let x = c.args in Logins (length x.packed.now) (length x.x.now) x.q x.w x.n =
-    let x = c.args in logins-clear _ _ x.q x.w x.n (sym c.logins_refusal-z.ensures ∙ c.if-z-ne0.false) in
-    omega (arith, (ok).rows.high)
+    let ok : Logins (length c.args.packed.now) (length c.args.x.now) c.args.q c.args.w c.args.n =
+    logins-clear _ _ c.args.q c.args.w c.args.n (sym c.logins_refusal-z.ensures ∙ c.if-z-ne0.false) in
+    omega (arith, ok.rows.high)
 
 pub overflow_mul-end-2 : goal.overflow_mul-end-2
 overflow_mul-end-2 c =
-    let ok : let x = c.args in Logins (length x.packed.now) (length x.x.now) x.q x.w x.n =
-    let x = c.args in logins-clear _ _ x.q x.w x.n (sym c.logins_refusal-z.ensures ∙ c.if-z-ne0.false) in
+    let ok : Logins (length c.args.packed.now) (length c.args.x.now) c.args.q c.args.w c.args.n =
+    logins-clear _ _ c.args.q c.args.w c.args.n (sym c.logins_refusal-z.ensures ∙ c.if-z-ne0.false) in
     let x = c.args in
-    omega (arith, product-fits x.q (2 * x.n) (ok).logins.high (omega (arith, (ok).rows.high)))
+    omega (arith, product-fits x.q (2 * x.n) ok.logins.high (omega (arith, ok.rows.high)))
 
 pub returns-then-out-end : goal.returns-then-out-end
 returns-then-out-end c =
@@ -43,47 +47,32 @@ returns-then-out-end c =
 
 pub slice_bounds-products-end : goal.slice_bounds-products-end
 slice_bounds-products-end c =
-    let inside : Inside c.least-e.result c.args.row.now c.args.col.now c.args.lo.now c.args.hi.now =
-    let k = c.entries_held.ensures in
-    let l = c.least-e.ensures in
-    record { row = omega (arith, k.1, l.1); col = omega (arith, k.2, l.1); lo = omega (arith, k.3, l.1); hi = omega (arith, k.4, l.1) } in
-    omega (arith, (inside).row)
+    let inside = inside_of c.args.row.now c.args.col.now c.args.lo.now c.args.hi.now c.entries_held.ensures c.least-e.ensures.1 in
+    omega (arith, inside.row)
 
 pub slice_bounds-products-end-2 : goal.slice_bounds-products-end-2
 slice_bounds-products-end-2 c =
-    let inside : Inside c.least-e.result c.args.row.now c.args.col.now c.args.lo.now c.args.hi.now =
-    let k = c.entries_held.ensures in
-    let l = c.least-e.ensures in
-    record { row = omega (arith, k.1, l.1); col = omega (arith, k.2, l.1); lo = omega (arith, k.3, l.1); hi = omega (arith, k.4, l.1) } in
-    omega (arith, (inside).col)
+    let inside = inside_of c.args.row.now c.args.col.now c.args.lo.now c.args.hi.now c.entries_held.ensures c.least-e.ensures.1 in
+    omega (arith, inside.col)
 
 pub slice_bounds-products-end-3 : goal.slice_bounds-products-end-3
 slice_bounds-products-end-3 c =
-    let inside : Inside c.least-e.result c.args.row.now c.args.col.now c.args.lo.now c.args.hi.now =
-    let k = c.entries_held.ensures in
-    let l = c.least-e.ensures in
-    record { row = omega (arith, k.1, l.1); col = omega (arith, k.2, l.1); lo = omega (arith, k.3, l.1); hi = omega (arith, k.4, l.1) } in
-    omega (arith, (inside).lo)
+    let inside = inside_of c.args.row.now c.args.col.now c.args.lo.now c.args.hi.now c.entries_held.ensures c.least-e.ensures.1 in
+    omega (arith, inside.lo)
 
 pub slice_bounds-products-end-4 : goal.slice_bounds-products-end-4
 slice_bounds-products-end-4 c =
-    let inside : Inside c.least-e.result c.args.row.now c.args.col.now c.args.lo.now c.args.hi.now =
-    let k = c.entries_held.ensures in
-    let l = c.least-e.ensures in
-    record { row = omega (arith, k.1, l.1); col = omega (arith, k.2, l.1); lo = omega (arith, k.3, l.1); hi = omega (arith, k.4, l.1) } in
-    omega (arith, (inside).hi)
+    let inside = inside_of c.args.row.now c.args.col.now c.args.lo.now c.args.hi.now c.entries_held.ensures c.least-e.ensures.1 in
+    omega (arith, inside.hi)
 
 pub slice_bounds-products-end-6 : goal.slice_bounds-products-end-6
 slice_bounds-products-end-6 c = sym (length-take-le _ _ (omega arith))
 
 pub products-requires : goal.products-requires
 products-requires c =
-    let ok : let x = c.args in Logins (length x.packed.now) (length x.x.now) x.q x.w x.n =
-    let x = c.args in logins-clear _ _ x.q x.w x.n (sym c.logins_refusal-z.ensures ∙ c.if-z-ne0.false) in
-    let inside : Inside c.least-e.result c.args.row.now c.args.col.now c.args.lo.now c.args.hi.now =
-    let k = c.entries_held.ensures in
-    let l = c.least-e.ensures in
-    record { row = omega (arith, k.1, l.1); col = omega (arith, k.2, l.1); lo = omega (arith, k.3, l.1); hi = omega (arith, k.4, l.1) } in
+    let ok : Logins (length c.args.packed.now) (length c.args.x.now) c.args.q c.args.w c.args.n =
+    logins-clear _ _ c.args.q c.args.w c.args.n (sym c.logins_refusal-z.ensures ∙ c.if-z-ne0.false) in
+    let inside = inside_of c.args.row.now c.args.col.now c.args.lo.now c.args.hi.now c.entries_held.ensures c.least-e.ensures.1 in
     let x = c.args in
     let o = ok in
     let i = inside in record {
