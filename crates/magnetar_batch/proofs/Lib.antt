@@ -8,6 +8,5 @@ pub mod ComboEnds
 pub mod ValueEnds
 pub mod ComboWalk
 pub mod ValueOver
-pub mod EachNNNNMI
 pub mod Halves
 pub mod MarkedRows

@@ -2,6 +2,4 @@ pub mod RowWalk
 pub mod SystemWalk
 pub mod CheckEnds
 pub mod CheckWalk
-pub mod EachMNNNNNNSSI
-pub mod CountANIMQNNNNNNSSE
 pub mod Exactly

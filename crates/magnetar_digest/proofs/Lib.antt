@@ -4,4 +4,3 @@ pub mod Ends
 pub mod OneRelation
 pub mod LentWords
 pub mod Examples
-pub mod EachASponge

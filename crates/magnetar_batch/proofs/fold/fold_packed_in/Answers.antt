@@ -1,4 +1,4 @@
-use Rattle.core.specs.Prelude.{◌≡◌, ◌+◌, ◌*◌, ◌≤◌, ◌++◌, length, drop, replicate}
+use Rattle.core.specs.Prelude.{◌≡◌, ℕ, ◌+◌, ◌*◌, ◌≤◌, ◌++◌, List, length, drop, replicate}
 use mathlib.Core.Path.{refl, sym, ◌∙◌}
 use mathlib.Core.List.{append_assoc}
 use native.Mathlib.Omega.{arith}
@@ -22,14 +22,14 @@ use borrow.Author.Rules.{rules}
 use Rattle.magnetar_batch.proofs.fold.fold_packed_in.Goals as goal
 
 -- what is known of the sizes, and once nothing is refused
-record Small (s : goal.Start) : Type 0 where
-  half : s.args.w ≤ 32768
-  logins : Sized 1 4096 s.args.q
+record Small (w q : ℕ) : Type 0 where
+  half : w ≤ 32768
+  logins : Sized 1 4096 q
 
-record Fits (s : goal.Start) : Type 0 where
-  packed : length s.args.packed.now ≡ s.args.q * login_words s.args.w
-  point : length s.args.point.now ≡ 2 * log₂ s.args.q
-  room : 2 * s.args.w + 2 * s.args.q ≤ length s.args.s.now
+record Fits (w q : ℕ) (ws p t : List ℕ) : Type 0 where
+  packed : length ws ≡ q * login_words w
+  point : length p ≡ 2 * log₂ q
+  room : 2 * w + 2 * q ≤ length t
 
 pub returns-then-n-ne0 : goal.returns-then-n-ne0
 unfolding fold_in_refusal
@@ -52,7 +52,7 @@ overflow_mul-end c =
         size_tests (2 * c.args.w) c.args.q in
     let early : c.refuse-n-2.result ≡ first_refusal 0 (first) =
         rw (c.refuse-n-2.ensures, c.is_size-2.ensures, c.refuse-n.ensures, c.is_size.ensures, half-size c.args.w) in
-    let small : Small c.before.before.before.before.before.before.before.before =
+    let small : Small c.args.w c.args.q =
         let k = (first-refusal-clear 0 (first) refl (sym (early) ∙ c.if-n-ne0.false)).1 in
         let z = not-bad k.0 in
         record { half = omega (arith, z.high); logins = not-bad k.1.0 } in
@@ -64,7 +64,7 @@ overflow_mul-end-2 c =
         size_tests (2 * c.args.w) c.args.q in
     let early : c.refuse-n-2.result ≡ first_refusal 0 (first) =
         rw (c.refuse-n-2.ensures, c.is_size-2.ensures, c.refuse-n.ensures, c.is_size.ensures, half-size c.args.w) in
-    let small : Small c.before.before.before.before.before.before.before.before =
+    let small : Small c.args.w c.args.q =
         let k = (first-refusal-clear 0 (first) refl (sym (early) ∙ c.if-n-ne0.false)).1 in
         let z = not-bad k.0 in
         record { half = omega (arith, z.high); logins = not-bad k.1.0 } in
@@ -76,7 +76,7 @@ overflow_add-end c =
         size_tests (2 * c.args.w) c.args.q in
     let early : c.refuse-n-2.result ≡ first_refusal 0 (first) =
         rw (c.refuse-n-2.ensures, c.is_size-2.ensures, c.refuse-n.ensures, c.is_size.ensures, half-size c.args.w) in
-    let small : Small c.before.before.before.before.before.before.before.before =
+    let small : Small c.args.w c.args.q =
         let k = (first-refusal-clear 0 (first) refl (sym (early) ∙ c.if-n-ne0.false)).1 in
         let z = not-bad k.0 in
         record { half = omega (arith, z.high); logins = not-bad k.1.0 } in
@@ -88,7 +88,7 @@ overflow_mul-q c =
         size_tests (2 * c.args.w) c.args.q in
     let early : c.refuse-n-2.result ≡ first_refusal 0 (first) =
         rw (c.refuse-n-2.ensures, c.is_size-2.ensures, c.refuse-n.ensures, c.is_size.ensures, half-size c.args.w) in
-    let small : Small c.before.before.before.before.before.before.before.before =
+    let small : Small c.args.w c.args.q =
         let k = (first-refusal-clear 0 (first) refl (sym (early) ∙ c.if-n-ne0.false)).1 in
         let z = not-bad k.0 in
         record { half = omega (arith, z.high); logins = not-bad k.1.0 } in
@@ -103,7 +103,7 @@ overflow_mul-log2 c =
         size_tests (2 * c.args.w) c.args.q in
     let early : c.refuse-n-2.result ≡ first_refusal 0 (first) =
         rw (c.refuse-n-2.ensures, c.is_size-2.ensures, c.refuse-n.ensures, c.is_size.ensures, half-size c.args.w) in
-    let small : Small c.before.before.before.before.before.before.before.before =
+    let small : Small c.args.w c.args.q =
         let k = (first-refusal-clear 0 (first) refl (sym (early) ∙ c.if-n-ne0.false)).1 in
         let z = not-bad k.0 in
         record { half = omega (arith, z.high); logins = not-bad k.1.0 } in
@@ -133,7 +133,7 @@ slice_bounds-fold_one-end c =
         let x = c.args in packed_tests x.w x.q x.packed.now ++ length_test (2 * log₂ x.q) x.point.now ++ room_test (2 * x.w + 2 * x.q) x.s.now in
     let late : c.refuse-n-5.result ≡ first_refusal 0 (rest) =
         rw (c.refuse-n-5.ensures, c.refuse-n-4.ensures, c.log2.ensures.0, c.refuse-n-3.ensures, c.login_words.ensures) in
-    let fits : Fits c.before.before.before.before.before.before.before.before.before.before.before.before.before.before =
+    let fits : Fits c.args.w c.args.q c.args.packed.now c.args.point.now c.args.s.now =
         let k = (first-refusal-clear 0 (rest) refl (sym (late) ∙ c.if-n-ne0-2.false)).1 in
         record { packed = eqb-true _ _ (not-false _ k.0); point = eqb-true _ _ (not-false _ k.1.0); room = ltb-false _ _ k.1.1.0 } in
     (fits).room
@@ -144,7 +144,7 @@ slice_bounds-fold_one-end-2 c =
         let x = c.args in packed_tests x.w x.q x.packed.now ++ length_test (2 * log₂ x.q) x.point.now ++ room_test (2 * x.w + 2 * x.q) x.s.now in
     let late : c.refuse-n-5.result ≡ first_refusal 0 (rest) =
         rw (c.refuse-n-5.ensures, c.refuse-n-4.ensures, c.log2.ensures.0, c.refuse-n-3.ensures, c.login_words.ensures) in
-    let fits : Fits c.before.before.before.before.before.before.before.before.before.before.before.before.before.before =
+    let fits : Fits c.args.w c.args.q c.args.packed.now c.args.point.now c.args.s.now =
         let k = (first-refusal-clear 0 (rest) refl (sym (late) ∙ c.if-n-ne0-2.false)).1 in
         record { packed = eqb-true _ _ (not-false _ k.0); point = eqb-true _ _ (not-false _ k.1.0); room = ltb-false _ _ k.1.1.0 } in
     sym (length-take-le _ _ (fits).room)
@@ -159,11 +159,11 @@ fold_one-requires c =
         rw (c.refuse-n-2.ensures, c.is_size-2.ensures, c.refuse-n.ensures, c.is_size.ensures, half-size c.args.w) in
     let late : c.refuse-n-5.result ≡ first_refusal 0 (rest) =
         rw (c.refuse-n-5.ensures, c.refuse-n-4.ensures, c.log2.ensures.0, c.refuse-n-3.ensures, c.login_words.ensures) in
-    let small : Small c.before.before.before.before.before.before.before.before =
+    let small : Small c.args.w c.args.q =
         let k = (first-refusal-clear 0 (first) refl (sym (early) ∙ c.if-n-ne0.false)).1 in
         let z = not-bad k.0 in
         record { half = omega (arith, z.high); logins = not-bad k.1.0 } in
-    let fits : Fits c.before.before.before.before.before.before.before.before.before.before.before.before.before.before =
+    let fits : Fits c.args.w c.args.q c.args.packed.now c.args.point.now c.args.s.now =
         let k = (first-refusal-clear 0 (rest) refl (sym (late) ∙ c.if-n-ne0-2.false)).1 in
         record { packed = eqb-true _ _ (not-false _ k.0); point = eqb-true _ _ (not-false _ k.1.0); room = ltb-false _ _ k.1.1.0 } in
     let x = c.args in
@@ -186,11 +186,11 @@ returns c =
         rw (c.refuse-n-2.ensures, c.is_size-2.ensures, c.refuse-n.ensures, c.is_size.ensures, half-size c.args.w) in
     let late : c.refuse-n-5.result ≡ first_refusal 0 (rest) =
         rw (c.refuse-n-5.ensures, c.refuse-n-4.ensures, c.log2.ensures.0, c.refuse-n-3.ensures, c.login_words.ensures) in
-    let small : Small c.before.before.before.before.before.before.before.before =
+    let small : Small c.args.w c.args.q =
         let k = (first-refusal-clear 0 (first) refl (sym (early) ∙ c.if-n-ne0.false)).1 in
         let z = not-bad k.0 in
         record { half = omega (arith, z.high); logins = not-bad k.1.0 } in
-    let fits : Fits c.before.before.before.before.before.before.before.before.before.before.before.before.before.before =
+    let fits : Fits c.args.w c.args.q c.args.packed.now c.args.point.now c.args.s.now =
         let k = (first-refusal-clear 0 (rest) refl (sym (late) ∙ c.if-n-ne0-2.false)).1 in
         record { packed = eqb-true _ _ (not-false _ k.0); point = eqb-true _ _ (not-false _ k.1.0); room = ltb-false _ _ k.1.1.0 } in
     let k = c in

@@ -1,4 +1,4 @@
-use Rattle.core.specs.Prelude.{◌≡◌, ◌+◌, ◌*◌, ◌≤◌, ◌++◌, length}
+use Rattle.core.specs.Prelude.{◌≡◌, ℕ, ◌+◌, ◌*◌, ◌≤◌, ◌++◌, List, length}
 use mathlib.Core.Path.{refl, sym, ◌∙◌}
 use native.Mathlib.Omega.{arith}
 use lib.Seq.{length-take-le}
@@ -21,15 +21,15 @@ use borrow.Author.Rules.{rules}
 use Rattle.magnetar_batch.proofs.fold.fold_packed_w.Goals as goal
 
 -- what is known of the sizes, and once nothing is refused
-record Small (s : goal.Start) : Type 0 where
-  half : s.args.w ≤ 32768
-  logins : Sized 1 4096 s.args.q
+record Small (w q : ℕ) : Type 0 where
+  half : w ≤ 32768
+  logins : Sized 1 4096 q
 
-record Fits (s : goal.Start) : Type 0 where
-  packed : length s.args.packed.now ≡ s.args.q * login_words s.args.w
-  point : length s.args.point.now ≡ 2 * log₂ s.args.q
-  out : 2 * s.args.w ≤ length s.args.out.now
-  scratch : 2 * s.args.q ≤ length s.args.scratch.now
+record Fits (w q : ℕ) (ws p o t : List ℕ) : Type 0 where
+  packed : length ws ≡ q * login_words w
+  point : length p ≡ 2 * log₂ q
+  out : 2 * w ≤ length o
+  scratch : 2 * q ≤ length t
 
 pub returns-then-n-ne0 : goal.returns-then-n-ne0
 unfolding fold_refusal
@@ -52,7 +52,7 @@ overflow_mul-q c =
         size_tests (2 * c.args.w) c.args.q in
     let early : c.refuse-n-2.result ≡ first_refusal 0 (first) =
         rw (c.refuse-n-2.ensures, c.is_size-2.ensures, c.refuse-n.ensures, c.is_size.ensures, half-size c.args.w) in
-    let small : Small c.before.before.before.before.before.before.before.before.before =
+    let small : Small c.args.w c.args.q =
         let k = (first-refusal-clear 0 (first) refl (sym (early) ∙ c.if-n-ne0.false)).1 in
         let z = not-bad k.0 in
         record { half = omega (arith, z.high); logins = not-bad k.1.0 } in
@@ -67,7 +67,7 @@ overflow_mul-log2 c =
         size_tests (2 * c.args.w) c.args.q in
     let early : c.refuse-n-2.result ≡ first_refusal 0 (first) =
         rw (c.refuse-n-2.ensures, c.is_size-2.ensures, c.refuse-n.ensures, c.is_size.ensures, half-size c.args.w) in
-    let small : Small c.before.before.before.before.before.before.before.before.before =
+    let small : Small c.args.w c.args.q =
         let k = (first-refusal-clear 0 (first) refl (sym (early) ∙ c.if-n-ne0.false)).1 in
         let z = not-bad k.0 in
         record { half = omega (arith, z.high); logins = not-bad k.1.0 } in
@@ -80,7 +80,7 @@ overflow_mul-w c =
         size_tests (2 * c.args.w) c.args.q in
     let early : c.refuse-n-2.result ≡ first_refusal 0 (first) =
         rw (c.refuse-n-2.ensures, c.is_size-2.ensures, c.refuse-n.ensures, c.is_size.ensures, half-size c.args.w) in
-    let small : Small c.before.before.before.before.before.before.before.before.before =
+    let small : Small c.args.w c.args.q =
         let k = (first-refusal-clear 0 (first) refl (sym (early) ∙ c.if-n-ne0.false)).1 in
         let z = not-bad k.0 in
         record { half = omega (arith, z.high); logins = not-bad k.1.0 } in
@@ -92,7 +92,7 @@ overflow_mul-q-2 c =
         size_tests (2 * c.args.w) c.args.q in
     let early : c.refuse-n-2.result ≡ first_refusal 0 (first) =
         rw (c.refuse-n-2.ensures, c.is_size-2.ensures, c.refuse-n.ensures, c.is_size.ensures, half-size c.args.w) in
-    let small : Small c.before.before.before.before.before.before.before.before.before =
+    let small : Small c.args.w c.args.q =
         let k = (first-refusal-clear 0 (first) refl (sym (early) ∙ c.if-n-ne0.false)).1 in
         let z = not-bad k.0 in
         record { half = omega (arith, z.high); logins = not-bad k.1.0 } in
@@ -128,7 +128,7 @@ overflow_mul-end c =
         size_tests (2 * c.args.w) c.args.q in
     let early : c.refuse-n-2.result ≡ first_refusal 0 (first) =
         rw (c.refuse-n-2.ensures, c.is_size-2.ensures, c.refuse-n.ensures, c.is_size.ensures, half-size c.args.w) in
-    let small : Small c.before.before.before.before.before.before.before.before.before =
+    let small : Small c.args.w c.args.q =
         let k = (first-refusal-clear 0 (first) refl (sym (early) ∙ c.if-n-ne0.false)).1 in
         let z = not-bad k.0 in
         record { half = omega (arith, z.high); logins = not-bad k.1.0 } in
@@ -140,7 +140,7 @@ overflow_mul-room c =
         size_tests (2 * c.args.w) c.args.q in
     let early : c.refuse-n-2.result ≡ first_refusal 0 (first) =
         rw (c.refuse-n-2.ensures, c.is_size-2.ensures, c.refuse-n.ensures, c.is_size.ensures, half-size c.args.w) in
-    let small : Small c.before.before.before.before.before.before.before.before.before =
+    let small : Small c.args.w c.args.q =
         let k = (first-refusal-clear 0 (first) refl (sym (early) ∙ c.if-n-ne0.false)).1 in
         let z = not-bad k.0 in
         record { half = omega (arith, z.high); logins = not-bad k.1.0 } in
@@ -159,7 +159,7 @@ slice_bounds-fold_in-end c =
       c.refuse-n-3.ensures,
       c.login_words.ensures,
     ) in
-    let fits : Fits c.before.before.before.before.before.before.before.before.before.before.before.before.before.before.before.before =
+    let fits : Fits c.args.w c.args.q c.args.packed.now c.args.point.now c.args.out.now c.args.scratch.now =
         let k = (first-refusal-clear 0 (rest) refl (sym (late) ∙ c.if-n-ne0-2.false)).1 in
         record { packed = eqb-true _ _ (not-false _ k.0); point = eqb-true _ _ (not-false _ k.1.0); out = ltb-false _ _ k.1.1.0; scratch = ltb-false _ _ k.1.1.1.0 } in
     (fits).out
@@ -177,7 +177,7 @@ slice_bounds-fold_in-end-2 c =
       c.refuse-n-3.ensures,
       c.login_words.ensures,
     ) in
-    let fits : Fits c.before.before.before.before.before.before.before.before.before.before.before.before.before.before.before.before =
+    let fits : Fits c.args.w c.args.q c.args.packed.now c.args.point.now c.args.out.now c.args.scratch.now =
         let k = (first-refusal-clear 0 (rest) refl (sym (late) ∙ c.if-n-ne0-2.false)).1 in
         record { packed = eqb-true _ _ (not-false _ k.0); point = eqb-true _ _ (not-false _ k.1.0); out = ltb-false _ _ k.1.1.0; scratch = ltb-false _ _ k.1.1.1.0 } in
     sym (length-take-le _ _ (fits).out)
@@ -195,7 +195,7 @@ slice_bounds-fold_in-end-3 c =
       c.refuse-n-3.ensures,
       c.login_words.ensures,
     ) in
-    let fits : Fits c.before.before.before.before.before.before.before.before.before.before.before.before.before.before.before.before =
+    let fits : Fits c.args.w c.args.q c.args.packed.now c.args.point.now c.args.out.now c.args.scratch.now =
         let k = (first-refusal-clear 0 (rest) refl (sym (late) ∙ c.if-n-ne0-2.false)).1 in
         record { packed = eqb-true _ _ (not-false _ k.0); point = eqb-true _ _ (not-false _ k.1.0); out = ltb-false _ _ k.1.1.0; scratch = ltb-false _ _ k.1.1.1.0 } in
     (fits).scratch
@@ -213,7 +213,7 @@ slice_bounds-fold_in-end-4 c =
       c.refuse-n-3.ensures,
       c.login_words.ensures,
     ) in
-    let fits : Fits c.before.before.before.before.before.before.before.before.before.before.before.before.before.before.before.before =
+    let fits : Fits c.args.w c.args.q c.args.packed.now c.args.point.now c.args.out.now c.args.scratch.now =
         let k = (first-refusal-clear 0 (rest) refl (sym (late) ∙ c.if-n-ne0-2.false)).1 in
         record { packed = eqb-true _ _ (not-false _ k.0); point = eqb-true _ _ (not-false _ k.1.0); out = ltb-false _ _ k.1.1.0; scratch = ltb-false _ _ k.1.1.1.0 } in
     sym (length-take-le _ _ (fits).scratch)
@@ -235,11 +235,11 @@ fold_in-requires c =
       c.refuse-n-3.ensures,
       c.login_words.ensures,
     ) in
-    let small : Small c.before.before.before.before.before.before.before.before.before =
+    let small : Small c.args.w c.args.q =
         let k = (first-refusal-clear 0 (first) refl (sym (early) ∙ c.if-n-ne0.false)).1 in
         let z = not-bad k.0 in
         record { half = omega (arith, z.high); logins = not-bad k.1.0 } in
-    let fits : Fits c.before.before.before.before.before.before.before.before.before.before.before.before.before.before.before.before =
+    let fits : Fits c.args.w c.args.q c.args.packed.now c.args.point.now c.args.out.now c.args.scratch.now =
         let k = (first-refusal-clear 0 (rest) refl (sym (late) ∙ c.if-n-ne0-2.false)).1 in
         record { packed = eqb-true _ _ (not-false _ k.0); point = eqb-true _ _ (not-false _ k.1.0); out = ltb-false _ _ k.1.1.0; scratch = ltb-false _ _ k.1.1.1.0 } in
     let f = fits in
@@ -267,11 +267,11 @@ returns c =
       c.refuse-n-3.ensures,
       c.login_words.ensures,
     ) in
-    let small : Small c.before.before.before.before.before.before.before.before.before =
+    let small : Small c.args.w c.args.q =
         let k = (first-refusal-clear 0 (first) refl (sym (early) ∙ c.if-n-ne0.false)).1 in
         let z = not-bad k.0 in
         record { half = omega (arith, z.high); logins = not-bad k.1.0 } in
-    let fits : Fits c.before.before.before.before.before.before.before.before.before.before.before.before.before.before.before.before =
+    let fits : Fits c.args.w c.args.q c.args.packed.now c.args.point.now c.args.out.now c.args.scratch.now =
         let k = (first-refusal-clear 0 (rest) refl (sym (late) ∙ c.if-n-ne0-2.false)).1 in
         record { packed = eqb-true _ _ (not-false _ k.0); point = eqb-true _ _ (not-false _ k.1.0); out = ltb-false _ _ k.1.1.0; scratch = ltb-false _ _ k.1.1.1.0 } in
     let s = c in

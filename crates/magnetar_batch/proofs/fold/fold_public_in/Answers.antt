@@ -1,4 +1,4 @@
-use Rattle.core.specs.Prelude.{◌≡◌, ◌+◌, ◌*◌, ◌≤◌, ◌++◌, length, drop, replicate}
+use Rattle.core.specs.Prelude.{◌≡◌, ℕ, ◌+◌, ◌*◌, ◌≤◌, ◌++◌, List, length, drop, replicate}
 use mathlib.Core.Path.{refl, sym, ◌∙◌}
 use mathlib.Core.List.{append_assoc}
 use native.Mathlib.Omega.{arith}
@@ -22,15 +22,15 @@ use borrow.Author.Rules.{rules}
 use Rattle.magnetar_batch.proofs.fold.fold_public_in.Goals as goal
 
 -- what is known of the sizes, and once nothing is refused
-record Small (s : goal.Start) : Type 0 where
-  least : 1 ≤ s.args.w
-  half : s.args.w ≤ 32768
-  logins : Sized 1 4096 s.args.q
+record Small (w q : ℕ) : Type 0 where
+  least : 1 ≤ w
+  half : w ≤ 32768
+  logins : Sized 1 4096 q
 
-record Fits (s : goal.Start) : Type 0 where
-  public : length s.args.x.now ≡ s.args.q * public_words s.args.w
-  point : length s.args.point.now ≡ 2 * log₂ s.args.q
-  room : 2 * s.args.w + 2 * s.args.q ≤ length s.args.s.now
+record Fits (w q : ℕ) (ws p t : List ℕ) : Type 0 where
+  public : length ws ≡ q * public_words w
+  point : length p ≡ 2 * log₂ q
+  room : 2 * w + 2 * q ≤ length t
 
 pub returns-then-n-ne0 : goal.returns-then-n-ne0
 unfolding public_in_refusal
@@ -54,7 +54,7 @@ overflow_mul-end c =
         size_tests (2 * c.args.w) c.args.q in
     let early : c.refuse-n-2.result ≡ first_refusal 0 (first) =
         rw (c.refuse-n-2.ensures, c.is_size-2.ensures, c.refuse-n.ensures, c.is_size.ensures, half-size c.args.w) in
-    let small : Small c.before.before.before.before.before.before.before.before =
+    let small : Small c.args.w c.args.q =
         let k = (first-refusal-clear 0 (first) refl (sym (early) ∙ c.if-n-ne0.false)).1 in
         let z = not-bad k.0 in
         record { least = omega (arith, z.low); half = omega (arith, z.high); logins = not-bad k.1.0 } in
@@ -66,7 +66,7 @@ overflow_mul-end-2 c =
         size_tests (2 * c.args.w) c.args.q in
     let early : c.refuse-n-2.result ≡ first_refusal 0 (first) =
         rw (c.refuse-n-2.ensures, c.is_size-2.ensures, c.refuse-n.ensures, c.is_size.ensures, half-size c.args.w) in
-    let small : Small c.before.before.before.before.before.before.before.before =
+    let small : Small c.args.w c.args.q =
         let k = (first-refusal-clear 0 (first) refl (sym (early) ∙ c.if-n-ne0.false)).1 in
         let z = not-bad k.0 in
         record { least = omega (arith, z.low); half = omega (arith, z.high); logins = not-bad k.1.0 } in
@@ -78,7 +78,7 @@ overflow_add-end c =
         size_tests (2 * c.args.w) c.args.q in
     let early : c.refuse-n-2.result ≡ first_refusal 0 (first) =
         rw (c.refuse-n-2.ensures, c.is_size-2.ensures, c.refuse-n.ensures, c.is_size.ensures, half-size c.args.w) in
-    let small : Small c.before.before.before.before.before.before.before.before =
+    let small : Small c.args.w c.args.q =
         let k = (first-refusal-clear 0 (first) refl (sym (early) ∙ c.if-n-ne0.false)).1 in
         let z = not-bad k.0 in
         record { least = omega (arith, z.low); half = omega (arith, z.high); logins = not-bad k.1.0 } in
@@ -90,7 +90,7 @@ overflow_mul-w c =
         size_tests (2 * c.args.w) c.args.q in
     let early : c.refuse-n-2.result ≡ first_refusal 0 (first) =
         rw (c.refuse-n-2.ensures, c.is_size-2.ensures, c.refuse-n.ensures, c.is_size.ensures, half-size c.args.w) in
-    let small : Small c.before.before.before.before.before.before.before.before =
+    let small : Small c.args.w c.args.q =
         let k = (first-refusal-clear 0 (first) refl (sym (early) ∙ c.if-n-ne0.false)).1 in
         let z = not-bad k.0 in
         record { least = omega (arith, z.low); half = omega (arith, z.high); logins = not-bad k.1.0 } in
@@ -102,7 +102,7 @@ overflow_sub-w c =
         size_tests (2 * c.args.w) c.args.q in
     let early : c.refuse-n-2.result ≡ first_refusal 0 (first) =
         rw (c.refuse-n-2.ensures, c.is_size-2.ensures, c.refuse-n.ensures, c.is_size.ensures, half-size c.args.w) in
-    let small : Small c.before.before.before.before.before.before.before.before =
+    let small : Small c.args.w c.args.q =
         let k = (first-refusal-clear 0 (first) refl (sym (early) ∙ c.if-n-ne0.false)).1 in
         let z = not-bad k.0 in
         record { least = omega (arith, z.low); half = omega (arith, z.high); logins = not-bad k.1.0 } in
@@ -114,7 +114,7 @@ overflow_mul-q c =
         size_tests (2 * c.args.w) c.args.q in
     let early : c.refuse-n-2.result ≡ first_refusal 0 (first) =
         rw (c.refuse-n-2.ensures, c.is_size-2.ensures, c.refuse-n.ensures, c.is_size.ensures, half-size c.args.w) in
-    let small : Small c.before.before.before.before.before.before.before.before =
+    let small : Small c.args.w c.args.q =
         let k = (first-refusal-clear 0 (first) refl (sym (early) ∙ c.if-n-ne0.false)).1 in
         let z = not-bad k.0 in
         record { least = omega (arith, z.low); half = omega (arith, z.high); logins = not-bad k.1.0 } in
@@ -126,7 +126,7 @@ overflow_mul-log2 c =
         size_tests (2 * c.args.w) c.args.q in
     let early : c.refuse-n-2.result ≡ first_refusal 0 (first) =
         rw (c.refuse-n-2.ensures, c.is_size-2.ensures, c.refuse-n.ensures, c.is_size.ensures, half-size c.args.w) in
-    let small : Small c.before.before.before.before.before.before.before.before =
+    let small : Small c.args.w c.args.q =
         let k = (first-refusal-clear 0 (first) refl (sym (early) ∙ c.if-n-ne0.false)).1 in
         let z = not-bad k.0 in
         record { least = omega (arith, z.low); half = omega (arith, z.high); logins = not-bad k.1.0 } in
@@ -158,7 +158,7 @@ slice_bounds-fold_halves-end c =
         public_tests (2 * x.w) x.q x.x.now ++ length_test (2 * log₂ x.q) x.point.now ++ room_test (2 * x.w + 2 * x.q) x.s.now in
     let late : c.refuse-n-5.result ≡ first_refusal 0 (rest) =
         rw (c.refuse-n-5.ensures, c.refuse-n-4.ensures, c.log2.ensures.0, c.refuse-n-3.ensures) in
-    let fits : Fits c.before.before.before.before.before.before.before.before.before.before.before.before.before =
+    let fits : Fits c.args.w c.args.q c.args.x.now c.args.point.now c.args.s.now =
         let k = (first-refusal-clear 0 (rest) refl (sym (late) ∙ c.if-n-ne0-2.false)).1 in
         record { public = eqb-true _ _ (not-false _ k.0); point = eqb-true _ _ (not-false _ k.1.0); room = ltb-false _ _ k.1.1.0 } in
     (fits).room
@@ -170,7 +170,7 @@ slice_bounds-fold_halves-end-2 c =
         public_tests (2 * x.w) x.q x.x.now ++ length_test (2 * log₂ x.q) x.point.now ++ room_test (2 * x.w + 2 * x.q) x.s.now in
     let late : c.refuse-n-5.result ≡ first_refusal 0 (rest) =
         rw (c.refuse-n-5.ensures, c.refuse-n-4.ensures, c.log2.ensures.0, c.refuse-n-3.ensures) in
-    let fits : Fits c.before.before.before.before.before.before.before.before.before.before.before.before.before =
+    let fits : Fits c.args.w c.args.q c.args.x.now c.args.point.now c.args.s.now =
         let k = (first-refusal-clear 0 (rest) refl (sym (late) ∙ c.if-n-ne0-2.false)).1 in
         record { public = eqb-true _ _ (not-false _ k.0); point = eqb-true _ _ (not-false _ k.1.0); room = ltb-false _ _ k.1.1.0 } in
     sym (length-take-le _ _ (fits).room)
@@ -186,11 +186,11 @@ fold_halves-requires c =
         rw (c.refuse-n-2.ensures, c.is_size-2.ensures, c.refuse-n.ensures, c.is_size.ensures, half-size c.args.w) in
     let late : c.refuse-n-5.result ≡ first_refusal 0 (rest) =
         rw (c.refuse-n-5.ensures, c.refuse-n-4.ensures, c.log2.ensures.0, c.refuse-n-3.ensures) in
-    let small : Small c.before.before.before.before.before.before.before.before =
+    let small : Small c.args.w c.args.q =
         let k = (first-refusal-clear 0 (first) refl (sym (early) ∙ c.if-n-ne0.false)).1 in
         let z = not-bad k.0 in
         record { least = omega (arith, z.low); half = omega (arith, z.high); logins = not-bad k.1.0 } in
-    let fits : Fits c.before.before.before.before.before.before.before.before.before.before.before.before.before =
+    let fits : Fits c.args.w c.args.q c.args.x.now c.args.point.now c.args.s.now =
         let k = (first-refusal-clear 0 (rest) refl (sym (late) ∙ c.if-n-ne0-2.false)).1 in
         record { public = eqb-true _ _ (not-false _ k.0); point = eqb-true _ _ (not-false _ k.1.0); room = ltb-false _ _ k.1.1.0 } in
     let x = c.args in
@@ -214,11 +214,11 @@ returns c =
         rw (c.refuse-n-2.ensures, c.is_size-2.ensures, c.refuse-n.ensures, c.is_size.ensures, half-size c.args.w) in
     let late : c.refuse-n-5.result ≡ first_refusal 0 (rest) =
         rw (c.refuse-n-5.ensures, c.refuse-n-4.ensures, c.log2.ensures.0, c.refuse-n-3.ensures) in
-    let small : Small c.before.before.before.before.before.before.before.before =
+    let small : Small c.args.w c.args.q =
         let k = (first-refusal-clear 0 (first) refl (sym (early) ∙ c.if-n-ne0.false)).1 in
         let z = not-bad k.0 in
         record { least = omega (arith, z.low); half = omega (arith, z.high); logins = not-bad k.1.0 } in
-    let fits : Fits c.before.before.before.before.before.before.before.before.before.before.before.before.before =
+    let fits : Fits c.args.w c.args.q c.args.x.now c.args.point.now c.args.s.now =
         let k = (first-refusal-clear 0 (rest) refl (sym (late) ∙ c.if-n-ne0-2.false)).1 in
         record { public = eqb-true _ _ (not-false _ k.0); point = eqb-true _ _ (not-false _ k.1.0); room = ltb-false _ _ k.1.1.0 } in
     let k = c in

@@ -1,4 +1,4 @@
-use Rattle.core.specs.Prelude.{◌≡◌, ◌-◌, ◌/◌, ◌≤◌, true, ◌++◌}
+use Rattle.core.specs.Prelude.{◌≡◌, ℕ, ◌-◌, ◌/◌, ◌≤◌, true, ◌++◌}
 use mathlib.Core.Path.{refl, sym, ◌∙◌}
 use native.Mathlib.Omega.{arith}
 use borrow.Author.Tests.{not-false}
@@ -15,11 +15,12 @@ use Rattle.magnetar_check.proofs.CheckEnds.{sixth-over}
 use borrow.Author.Rules.{rules}
 use Rattle.magnetar_check.proofs.check.refusal.Goals as goal
 
-record Small (s : goal.Start) : Type 0 where
-  size : is_size 2 most_columns s.args.m ≡ true
-  least : 2 ≤ s.args.m
-  most : s.args.m ≤ 65536
-  logins : s.args.q ≤ 4096
+-- what is known of the sizes where they are not refused
+record Small (m q : ℕ) : Type 0 where
+  size : is_size 2 most_columns m ≡ true
+  least : 2 ≤ m
+  most : m ≤ 65536
+  logins : q ≤ 4096
 
 pub returns-then-y-ne0 : goal.returns-then-y-ne0
 returns-then-y-ne0 c =
@@ -38,7 +39,7 @@ overflow_mul-q c =
         size_tests c.args.m c.args.q in
     let early : c.refuse-y-2.result ≡ first_refusal 0 (first) =
         rw (c.refuse-y-2.ensures, c.is_size-2.ensures, c.refuse-y.ensures, c.is_size.ensures) in
-    let small : Small c.before.before.before.before.before.before =
+    let small : Small c.args.m c.args.q =
         let k = (first-refusal-clear 0 (first) refl (sym (early) ∙ c.if-y-ne0.false)).1 in
         let z = not-bad k.0 in
         record { size = not-false _ k.0; least = z.low; most = z.high; logins = (not-bad k.1.0).high } in
@@ -53,7 +54,7 @@ overflow_sub-m c =
         size_tests c.args.m c.args.q in
     let early : c.refuse-y-2.result ≡ first_refusal 0 (first) =
         rw (c.refuse-y-2.ensures, c.is_size-2.ensures, c.refuse-y.ensures, c.is_size.ensures) in
-    let small : Small c.before.before.before.before.before.before =
+    let small : Small c.args.m c.args.q =
         let k = (first-refusal-clear 0 (first) refl (sym (early) ∙ c.if-y-ne0.false)).1 in
         let z = not-bad k.0 in
         record { size = not-false _ k.0; least = z.low; most = z.high; logins = (not-bad k.1.0).high } in
@@ -65,7 +66,7 @@ overflow_mul-q-2 c =
         size_tests c.args.m c.args.q in
     let early : c.refuse-y-2.result ≡ first_refusal 0 (first) =
         rw (c.refuse-y-2.ensures, c.is_size-2.ensures, c.refuse-y.ensures, c.is_size.ensures) in
-    let small : Small c.before.before.before.before.before.before =
+    let small : Small c.args.m c.args.q =
         let k = (first-refusal-clear 0 (first) refl (sym (early) ∙ c.if-y-ne0.false)).1 in
         let z = not-bad k.0 in
         record { size = not-false _ k.0; least = z.low; most = z.high; logins = (not-bad k.1.0).high } in
@@ -82,7 +83,7 @@ returns c =
         packed_tests_of (x.m / 2) x.q x.packed ++ (public_tests_of x.m x.q x.x ++ (given x.z ++ (layout_tests (x.m / 2) x.lens.now ++ check_scratch_tests x.nb x.nf x.scratch))) in
     let early : c.refuse-y-2.result ≡ first_refusal 0 (first) =
         rw (c.refuse-y-2.ensures, c.is_size-2.ensures, c.refuse-y.ensures, c.is_size.ensures) in
-    let small : Small c.before.before.before.before.before.before =
+    let small : Small c.args.m c.args.q =
         let k = (first-refusal-clear 0 (first) refl (sym (early) ∙ c.if-y-ne0.false)).1 in
         let z = not-bad k.0 in
         record { size = not-false _ k.0; least = z.low; most = z.high; logins = (not-bad k.1.0).high } in

@@ -1,0 +1,15 @@
+use Rattle.core.specs.Prelude.{◌≡◌, ◌-◌, length, drop}
+use Rattle.magnetar_relation.specs.Steps.{login_z}
+use Rattle.magnetar_relation.specs.EntryWalks.{fold_entries_within}
+use Rattle.magnetar_records.specs.Records.{entries_of_records}
+use Rattle.magnetar_check.specs.CheckSteps.{share_added}
+use Rattle.magnetar_check.proofs.check_records.add_product.Given as goal
+
+-- what is left to walk, from what the words are, is what was to be walked at the start
+abbrev pub invariant-loop-i : goal.invariant-loop-i
+invariant-loop-i l =
+    fold_entries_within (share_added l.m l.n (login_z l.w l.packed l.x l.u)) l.a l.b l.i (entries_of_records (drop l.i l.es)) l.s
+    ≡ fold_entries_within (share_added l.m l.n (login_z l.w l.packed l.x l.u)) l.a l.b 0 (entries_of_records l.es) l.initial.s
+
+abbrev pub decreases-loop-i : goal.decreases-loop-i
+decreases-loop-i l = length l.es - l.i
