@@ -8,7 +8,6 @@ use Rattle.magnetar_multilinear.specs.Entries.{table_words}
 use Rattle.magnetar_batch.specs.Fold.{half_sum}
 use Rattle.magnetar_batch.proofs.Rooms.{finished}
 use Rattle.magnetar_batch.proofs.Folds.{one-slice}
-use borrow.Author.Rules.{rules}
 use Rattle.magnetar_batch.proofs.fold.fold_halves.Goals as goal
 
 pub eq_behind-requires : goal.eq_behind-requires

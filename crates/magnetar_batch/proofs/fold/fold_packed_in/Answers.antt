@@ -18,7 +18,6 @@ use Rattle.magnetar_layout.proofs.FirstRefusal.{first-refusal-front, first-refus
 use Rattle.magnetar_matrix.proofs.LoginParts.{product-most, words-most}
 use Rattle.magnetar_batch.specs.Entries.{fold_in_refusal}
 use Rattle.magnetar_batch.proofs.Folds.{fold_is}
-use borrow.Author.Rules.{rules}
 use Rattle.magnetar_batch.proofs.fold.fold_packed_in.Goals as goal
 
 -- what is known of the sizes, and once nothing is refused

@@ -17,7 +17,6 @@ use Rattle.magnetar_matrix.proofs.LoginParts.{product-most, words-most}
 use Rattle.magnetar_batch.proofs.Folds.{fold_is}
 use Rattle.magnetar_r1cs.proofs.Points.{point-size}
 use lib.Dec.{lit≤}
-use borrow.Author.Rules.{rules}
 use Rattle.magnetar_batch.proofs.fold.fold_packed_w.Goals as goal
 
 -- what is known of the sizes, and once nothing is refused

@@ -18,7 +18,6 @@ use Rattle.magnetar_layout.proofs.FirstRefusal.{first-refusal-front, first-refus
 use Rattle.magnetar_matrix.proofs.PublicParts.{public-most}
 use Rattle.magnetar_batch.specs.Entries.{public_in_refusal}
 use Rattle.magnetar_batch.proofs.Halves.{halves_are}
-use borrow.Author.Rules.{rules}
 use Rattle.magnetar_batch.proofs.fold.fold_public_in.Goals as goal
 
 -- what is known of the sizes, and once nothing is refused

@@ -4,7 +4,6 @@ use lib.Dec.{lit<}
 use lib.Pow.{shl_exact, pow_pos}
 use borrow.Author.Tests.{lt-ltb, le-ltb}
 use Rattle.magnetar_batch.specs.Fold.{word_select}
-use borrow.Author.Rules.{rules}
 use Rattle.magnetar_batch.proofs.fold.kept.Goals as goal
 
 pub nonzero_rem-result : goal.nonzero_rem-result

@@ -18,7 +18,10 @@ pub slice_bounds-bind_all-end : goal.slice_bounds-bind_all-end
 slice_bounds-bind_all-end c = omega (arith, c.if-n-s.true)
 
 pub slice_bounds-bind_all-end-then-n-s : goal.slice_bounds-bind_all-end-then-n-s
-slice_bounds-bind_all-end-then-n-s c =
+slice_bounds-bind_all-end-then-n-s c = rw length-take (omega (arith, c.if-n-s.true))
+
+pub slice_bounds-bind_all-end-then-n-s-2 : goal.slice_bounds-bind_all-end-then-n-s-2
+slice_bounds-bind_all-end-then-n-s-2 c =
     let told = sym c.is_size.ensures ∙ c.if-is_size.true in
     omega (arith, small c.args.n c.log2-l.result told c.log2-l.ensures.0)
 
