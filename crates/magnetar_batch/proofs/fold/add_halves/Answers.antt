@@ -23,54 +23,47 @@ loop-u-init c = let x = c.args in (refl, omega arith, refl, λ _. refl, held_sta
 pub overflow_mul-a : goal.overflow_mul-a
 overflow_mul-a c =
     let columns_of : let x = c.args in PublicPart (length x.x.now) (2 * x.w - 2) c.loop-u.u x.q =
-        let s = c in
-        public-part s.args.w _ _ c.loop-u.u _ s.requires.2 s.requires.1 refl s.requires.3 c.loop-u-test.true in
+        public-part c.args.w _ _ c.loop-u.u _ c.requires.2 c.requires.1 refl c.requires.3 c.loop-u-test.true in
     let p = columns_of in omega (arith, p.ends, p.small)
 
 pub offset_bounds-x-a : goal.offset_bounds-x-a
 offset_bounds-x-a c =
     let columns_of : let x = c.args in PublicPart (length x.x.now) (2 * x.w - 2) c.loop-u.u x.q =
-        let s = c in
-        public-part s.args.w _ _ c.loop-u.u _ s.requires.2 s.requires.1 refl s.requires.3 c.loop-u-test.true in
+        public-part c.args.w _ _ c.loop-u.u _ c.requires.2 c.requires.1 refl c.requires.3 c.loop-u-test.true in
     let p = columns_of in omega (arith, p.ends, p.small)
 
 pub slice_bounds-add_or_hold-count : goal.slice_bounds-add_or_hold-count
 slice_bounds-add_or_hold-count c =
     let columns_of : let x = c.args in PublicPart (length x.x.now) (2 * x.w - 2) c.loop-u.u x.q =
-        let s = c in
-        public-part s.args.w _ _ c.loop-u.u _ s.requires.2 s.requires.1 refl s.requires.3 c.loop-u-test.true in
+        public-part c.args.w _ _ c.loop-u.u _ c.requires.2 c.requires.1 refl c.requires.3 c.loop-u-test.true in
     let p = columns_of in omega (arith, p.ends, p.small)
 
 pub slice_bounds-add_or_hold-start : goal.slice_bounds-add_or_hold-start
 slice_bounds-add_or_hold-start c =
     let columns_of : let x = c.args in PublicPart (length x.x.now) (2 * x.w - 2) c.loop-u.u x.q =
-        let s = c in
-        public-part s.args.w _ _ c.loop-u.u _ s.requires.2 s.requires.1 refl s.requires.3 c.loop-u-test.true in
+        public-part c.args.w _ _ c.loop-u.u _ c.requires.2 c.requires.1 refl c.requires.3 c.loop-u-test.true in
     let p = columns_of in omega (arith, p.ends, p.small)
 
 pub slice_bounds-add_or_hold-end : goal.slice_bounds-add_or_hold-end
 slice_bounds-add_or_hold-end c =
     let columns_of : let x = c.args in PublicPart (length x.x.now) (2 * x.w - 2) c.loop-u.u x.q =
-        let s = c in
-        public-part s.args.w _ _ c.loop-u.u _ s.requires.2 s.requires.1 refl s.requires.3 c.loop-u-test.true in
+        public-part c.args.w _ _ c.loop-u.u _ c.requires.2 c.requires.1 refl c.requires.3 c.loop-u-test.true in
     let p = columns_of in omega (arith, p.ends, p.small)
 
 pub add_or_hold-e-requires : goal.add_or_hold-e-requires
 add_or_hold-e-requires c =
     let columns_of : let x = c.args in PublicPart (length x.x.now) (2 * x.w - 2) c.loop-u.u x.q =
-        let s = c in
-        public-part s.args.w _ _ c.loop-u.u _ s.requires.2 s.requires.1 refl s.requires.3 c.loop-u-test.true in
+        public-part c.args.w _ _ c.loop-u.u _ c.requires.2 c.requires.1 refl c.requires.3 c.loop-u-test.true in
     rest-long c.args.x.now _ _ (columns_of).ends
 
 pub loop-u-preserved : goal.loop-u-preserved
 loop-u-preserved c =
-    let s = c in
-    let x = s.args in
+    let x = c.args in
     let l = c.loop-u in
     let r = c.add_or_hold-e in
     let t₀ = elements x.s.now in
     let k = elements-length l.s ∙ (ap (λ (i : ℕ). i / 2) l.invariant.0 ∙ sym (elements-length x.s.now)) in
-    let e = element-kept x.w x.x.now t₀ s.requires.0 l.u _ (elements l.s) k l.invariant.4 in (
+    let e = element-kept x.w x.x.now t₀ c.requires.0 l.u _ (elements l.s) k l.invariant.4 in (
       search rules,
       omega arith,
       l.invariant.2,
@@ -81,8 +74,7 @@ loop-u-preserved c =
 
 pub returns : goal.returns
 returns c =
-    let s = c in
-    let x = s.args in
+    let x = c.args in
     let l = c.loop-u in
     let e : l.u ≡ x.q = omega arith in
     held-end x.w x.x.now (elements x.s.now) l.u x.q (value l.e) (elements l.s) e (l.invariant.3 e) l.invariant.4

@@ -18,12 +18,11 @@ returns-then-base-w c = columns-end _ _ _ _ _ _ (inl c.if-base-w.true) c.loop-k.
 pub loop-k-preserved : goal.loop-k-preserved
 loop-k-preserved c =
     let l = c.loop-k in
-    let s = c in
     let b = l.invariant.1 in (
       search rules,
       omega arith,
       omega arith,
-      rw b (columns-more _ _ _ l.k _ _ _ (omega (arith, c.shared_slice_known-in-loop-k-1.given l.k)) (omega
+      rw b (columns-more _ _ _ l.k _ _ _ (omega (arith, c.type_inv.login l.k)) (omega
           arith) (rw b at l.invariant.3) (rw (c.kept.ensures, b) at c.add_word.ensures)),
     )
 

@@ -28,14 +28,13 @@ slice_bounds-add_login-end c = let s = c in let l = c.loop-u in let p = part-of 
 
 pub loop-u-preserved : goal.loop-u-preserved
 loop-u-preserved c =
-    let s = c in
     let l = c.loop-u in (
       search rules,
       omega arith,
       l.invariant.2,
       l.invariant.3,
-      logins-more s.args.w _ _ l.u _ _ _ l.invariant.4
-          (rw (part-is s.args.w s.args.packed.now l.u _ l.invariant.2, c.get.ensures) at c.add_login.ensures),
+      logins-more c.args.w _ _ l.u _ _ _ l.invariant.4
+          (rw (part-is c.args.w c.args.packed.now l.u _ l.invariant.2, c.get.ensures) at c.add_login.ensures),
     )
 
 pub returns : goal.returns

@@ -8,10 +8,8 @@ use Rattle.magnetar_batch.proofs.fold.fold_in.Goals as goal
 
 pub returns : goal.returns
 returns c =
-    let b = c in
-    let s = c in
-    let built = b.build-done.ensures.table ∙ eq-built _ _ s.requires.point in
-    let same : length b.build-done.new.out ≡ length s.args.s.now = search rules in record {
-      out_after = cleared-raised _ s.args.out.now _ _ s.requires.out_len (search rules) c.clear.ensures (rw (built, elements-words) at c.add_logins.ensures) (λ i. omega (arith, c.slice_known-5-1.given i));
+    let built = c.build-done.ensures.table ∙ eq-built _ _ c.requires.point in
+    let same : length c.build-done.new.out ≡ length c.args.s.now = search rules in record {
+      out_after = cleared-raised _ c.args.out.now _ _ c.requires.out_len (search rules) c.clear.ensures (rw (built, elements-words) at c.add_logins.ensures) (λ i. omega (arith, c.type_inv.out i));
       s_after = c.clear-2.ensures ∙ ap (λ (n : ℕ). replicate n 0) same;
     }

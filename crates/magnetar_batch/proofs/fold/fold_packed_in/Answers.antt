@@ -20,154 +20,129 @@ use Rattle.magnetar_batch.specs.Entries.{fold_in_refusal}
 use Rattle.magnetar_batch.proofs.Folds.{fold_is}
 use Rattle.magnetar_batch.proofs.fold.fold_packed_in.Goals as goal
 
--- what is known of the sizes, and once nothing is refused
+-- the tests of the sizes, and those after them
+abbrev first : (w q : ℕ) → Tests
+first w q = size_tests (2 * w) q
+
+abbrev rest : (w q : ℕ) → (ws p t : List ℕ) → Tests
+rest w q ws p t = packed_tests w q ws ++ length_test (2 * log₂ q) p ++ room_test (2 * w + 2 * q) t
+
+-- what is known where the first refuse nothing
 record Small (w q : ℕ) : Type 0 where
   half : w ≤ 32768
   logins : Sized 1 4096 q
 
+small : (w q n : ℕ) → n ≡ first_refusal 0 (first w q) → n ≡ 0 → Small w q
+small w q n early clear =
+    let k = (first-refusal-clear 0 (first w q) refl (sym early ∙ clear)).1 in
+    let z = not-bad k.0 in
+    record { half = omega (arith, z.high); logins = not-bad k.1.0 }
+
+-- and where the others do not
 record Fits (w q : ℕ) (ws p t : List ℕ) : Type 0 where
   packed : length ws ≡ q * login_words w
   point : length p ≡ 2 * log₂ q
   room : 2 * w + 2 * q ≤ length t
 
+fits : (w q : ℕ) (ws p t : List ℕ) (n : ℕ) → n ≡ first_refusal 0 (rest w q ws p t) → n ≡ 0 → Fits w q ws p t
+fits w q ws p t n late clear =
+    let k = (first-refusal-clear 0 (rest w q ws p t) refl (sym late ∙ clear)).1 in
+    record {
+      packed = eqb-true _ _ (not-false _ k.0);
+      point = eqb-true _ _ (not-false _ k.1.0);
+      room = ltb-false _ _ k.1.1.0;
+    }
+
 pub returns-then-n-ne0 : goal.returns-then-n-ne0
 unfolding fold_in_refusal
 returns-then-n-ne0 c =
-    let first : Tests =
-        size_tests (2 * c.args.w) c.args.q in
-    let rest : Tests =
-        let x = c.args in packed_tests x.w x.q x.packed.now ++ length_test (2 * log₂ x.q) x.point.now ++ room_test (2 * x.w + 2 * x.q) x.s.now in
-    let early : c.refuse-n-2.result ≡ first_refusal 0 (first) =
-        rw (c.refuse-n-2.ensures, c.is_size-2.ensures, c.refuse-n.ensures, c.is_size.ensures, half-size c.args.w) in
-    let s = c in
-    let e = first-refusal-front (first) (rest) _ (early) c.if-n-ne0.true in record {
+    let x = c.args in
+    let early : c.refuse-n-2.result ≡ first_refusal 0 (first x.w x.q) =
+        rw (c.refuse-n-2.ensures, c.is_size-2.ensures, c.refuse-n.ensures, c.is_size.ensures, half-size x.w) in
+    let e = first-refusal-front (first x.w x.q) (rest x.w x.q x.packed.now x.point.now x.s.now) _ early c.if-n-ne0.true in record {
       answer = e;
       folded = turned _ _ e c.if-n-ne0.true;
     }
 
 pub overflow_mul-end : goal.overflow_mul-end
 overflow_mul-end c =
-    let first : Tests =
-        size_tests (2 * c.args.w) c.args.q in
-    let early : c.refuse-n-2.result ≡ first_refusal 0 (first) =
-        rw (c.refuse-n-2.ensures, c.is_size-2.ensures, c.refuse-n.ensures, c.is_size.ensures, half-size c.args.w) in
-    let small : Small c.args.w c.args.q =
-        let k = (first-refusal-clear 0 (first) refl (sym (early) ∙ c.if-n-ne0.false)).1 in
-        let z = not-bad k.0 in
-        record { half = omega (arith, z.high); logins = not-bad k.1.0 } in
-    omega (arith, (small).half)
+    let x = c.args in
+    let early : c.refuse-n-2.result ≡ first_refusal 0 (first x.w x.q) =
+        rw (c.refuse-n-2.ensures, c.is_size-2.ensures, c.refuse-n.ensures, c.is_size.ensures, half-size x.w) in
+    let m = small x.w x.q _ early c.if-n-ne0.false in
+    omega (arith, m.half)
 
 pub overflow_mul-end-2 : goal.overflow_mul-end-2
 overflow_mul-end-2 c =
-    let first : Tests =
-        size_tests (2 * c.args.w) c.args.q in
-    let early : c.refuse-n-2.result ≡ first_refusal 0 (first) =
-        rw (c.refuse-n-2.ensures, c.is_size-2.ensures, c.refuse-n.ensures, c.is_size.ensures, half-size c.args.w) in
-    let small : Small c.args.w c.args.q =
-        let k = (first-refusal-clear 0 (first) refl (sym (early) ∙ c.if-n-ne0.false)).1 in
-        let z = not-bad k.0 in
-        record { half = omega (arith, z.high); logins = not-bad k.1.0 } in
-    omega (arith, (small).logins.high)
+    let x = c.args in
+    let early : c.refuse-n-2.result ≡ first_refusal 0 (first x.w x.q) =
+        rw (c.refuse-n-2.ensures, c.is_size-2.ensures, c.refuse-n.ensures, c.is_size.ensures, half-size x.w) in
+    let m = small x.w x.q _ early c.if-n-ne0.false in
+    omega (arith, m.logins.high)
 
 pub overflow_add-end : goal.overflow_add-end
 overflow_add-end c =
-    let first : Tests =
-        size_tests (2 * c.args.w) c.args.q in
-    let early : c.refuse-n-2.result ≡ first_refusal 0 (first) =
-        rw (c.refuse-n-2.ensures, c.is_size-2.ensures, c.refuse-n.ensures, c.is_size.ensures, half-size c.args.w) in
-    let small : Small c.args.w c.args.q =
-        let k = (first-refusal-clear 0 (first) refl (sym (early) ∙ c.if-n-ne0.false)).1 in
-        let z = not-bad k.0 in
-        record { half = omega (arith, z.high); logins = not-bad k.1.0 } in
-    let m = small in omega (arith, m.half, m.logins.high)
+    let x = c.args in
+    let early : c.refuse-n-2.result ≡ first_refusal 0 (first x.w x.q) =
+        rw (c.refuse-n-2.ensures, c.is_size-2.ensures, c.refuse-n.ensures, c.is_size.ensures, half-size x.w) in
+    let m = small x.w x.q _ early c.if-n-ne0.false in
+    omega (arith, m.half, m.logins.high)
 
 pub overflow_mul-q : goal.overflow_mul-q
 overflow_mul-q c =
-    let first : Tests =
-        size_tests (2 * c.args.w) c.args.q in
-    let early : c.refuse-n-2.result ≡ first_refusal 0 (first) =
-        rw (c.refuse-n-2.ensures, c.is_size-2.ensures, c.refuse-n.ensures, c.is_size.ensures, half-size c.args.w) in
-    let small : Small c.args.w c.args.q =
-        let k = (first-refusal-clear 0 (first) refl (sym (early) ∙ c.if-n-ne0.false)).1 in
-        let z = not-bad k.0 in
-        record { half = omega (arith, z.high); logins = not-bad k.1.0 } in
-    let z = small in omega (
-  arith,
-  product-most c.args.q c.login_words.result z.logins.high (rw c.login_words.ensures (words-most _ z.half)),
-)
+    let x = c.args in
+    let early : c.refuse-n-2.result ≡ first_refusal 0 (first x.w x.q) =
+        rw (c.refuse-n-2.ensures, c.is_size-2.ensures, c.refuse-n.ensures, c.is_size.ensures, half-size x.w) in
+    let m = small x.w x.q _ early c.if-n-ne0.false in
+    omega (arith, product-most x.q c.login_words.result m.logins.high (rw c.login_words.ensures (words-most _ m.half)))
 
 pub overflow_mul-log2 : goal.overflow_mul-log2
 overflow_mul-log2 c =
-    let first : Tests =
-        size_tests (2 * c.args.w) c.args.q in
-    let early : c.refuse-n-2.result ≡ first_refusal 0 (first) =
-        rw (c.refuse-n-2.ensures, c.is_size-2.ensures, c.refuse-n.ensures, c.is_size.ensures, half-size c.args.w) in
-    let small : Small c.args.w c.args.q =
-        let k = (first-refusal-clear 0 (first) refl (sym (early) ∙ c.if-n-ne0.false)).1 in
-        let z = not-bad k.0 in
-        record { half = omega (arith, z.high); logins = not-bad k.1.0 } in
-    let z = sized-wider 65536 (lit≤ tt) (small).logins in
+    let x = c.args in
+    let early : c.refuse-n-2.result ≡ first_refusal 0 (first x.w x.q) =
+        rw (c.refuse-n-2.ensures, c.is_size-2.ensures, c.refuse-n.ensures, c.is_size.ensures, half-size x.w) in
+    let m = small x.w x.q _ early c.if-n-ne0.false in
+    let z = sized-wider 65536 (lit≤ tt) m.logins in
     omega (arith, c.log2.ensures.0, log-most _ z.high z.power)
 
 pub returns-then-n-ne0-2 : goal.returns-then-n-ne0-2
 unfolding fold_in_refusal
 returns-then-n-ne0-2 c =
-    let first : Tests =
-        size_tests (2 * c.args.w) c.args.q in
-    let rest : Tests =
-        let x = c.args in packed_tests x.w x.q x.packed.now ++ length_test (2 * log₂ x.q) x.point.now ++ room_test (2 * x.w + 2 * x.q) x.s.now in
-    let early : c.refuse-n-2.result ≡ first_refusal 0 (first) =
-        rw (c.refuse-n-2.ensures, c.is_size-2.ensures, c.refuse-n.ensures, c.is_size.ensures, half-size c.args.w) in
-    let late : c.refuse-n-5.result ≡ first_refusal 0 (rest) =
+    let x = c.args in
+    let early : c.refuse-n-2.result ≡ first_refusal 0 (first x.w x.q) =
+        rw (c.refuse-n-2.ensures, c.is_size-2.ensures, c.refuse-n.ensures, c.is_size.ensures, half-size x.w) in
+    let late : c.refuse-n-5.result ≡ first_refusal 0 (rest x.w x.q x.packed.now x.point.now x.s.now) =
         rw (c.refuse-n-5.ensures, c.refuse-n-4.ensures, c.log2.ensures.0, c.refuse-n-3.ensures, c.login_words.ensures) in
-    let s = c in
-    let e = first-refusal-late (first) (rest) _ _ (early) c.if-n-ne0.false (late) in record {
+    let e = first-refusal-late (first x.w x.q) (rest x.w x.q x.packed.now x.point.now x.s.now) _ _ early c.if-n-ne0.false late in record {
       answer = e;
       folded = turned _ _ e c.if-n-ne0-2.true;
     }
 
 pub slice_bounds-fold_one-end : goal.slice_bounds-fold_one-end
 slice_bounds-fold_one-end c =
-    let rest : Tests =
-        let x = c.args in packed_tests x.w x.q x.packed.now ++ length_test (2 * log₂ x.q) x.point.now ++ room_test (2 * x.w + 2 * x.q) x.s.now in
-    let late : c.refuse-n-5.result ≡ first_refusal 0 (rest) =
+    let x = c.args in
+    let late : c.refuse-n-5.result ≡ first_refusal 0 (rest x.w x.q x.packed.now x.point.now x.s.now) =
         rw (c.refuse-n-5.ensures, c.refuse-n-4.ensures, c.log2.ensures.0, c.refuse-n-3.ensures, c.login_words.ensures) in
-    let fits : Fits c.args.w c.args.q c.args.packed.now c.args.point.now c.args.s.now =
-        let k = (first-refusal-clear 0 (rest) refl (sym (late) ∙ c.if-n-ne0-2.false)).1 in
-        record { packed = eqb-true _ _ (not-false _ k.0); point = eqb-true _ _ (not-false _ k.1.0); room = ltb-false _ _ k.1.1.0 } in
-    (fits).room
+    let f = fits x.w x.q x.packed.now x.point.now x.s.now _ late c.if-n-ne0-2.false in
+    f.room
 
 pub slice_bounds-fold_one-end-2 : goal.slice_bounds-fold_one-end-2
 slice_bounds-fold_one-end-2 c =
-    let rest : Tests =
-        let x = c.args in packed_tests x.w x.q x.packed.now ++ length_test (2 * log₂ x.q) x.point.now ++ room_test (2 * x.w + 2 * x.q) x.s.now in
-    let late : c.refuse-n-5.result ≡ first_refusal 0 (rest) =
+    let x = c.args in
+    let late : c.refuse-n-5.result ≡ first_refusal 0 (rest x.w x.q x.packed.now x.point.now x.s.now) =
         rw (c.refuse-n-5.ensures, c.refuse-n-4.ensures, c.log2.ensures.0, c.refuse-n-3.ensures, c.login_words.ensures) in
-    let fits : Fits c.args.w c.args.q c.args.packed.now c.args.point.now c.args.s.now =
-        let k = (first-refusal-clear 0 (rest) refl (sym (late) ∙ c.if-n-ne0-2.false)).1 in
-        record { packed = eqb-true _ _ (not-false _ k.0); point = eqb-true _ _ (not-false _ k.1.0); room = ltb-false _ _ k.1.1.0 } in
-    sym (length-take-le _ _ (fits).room)
+    let f = fits x.w x.q x.packed.now x.point.now x.s.now _ late c.if-n-ne0-2.false in
+    sym (length-take-le _ _ f.room)
 
 pub fold_one-requires : goal.fold_one-requires
 fold_one-requires c =
-    let first : Tests =
-        size_tests (2 * c.args.w) c.args.q in
-    let rest : Tests =
-        let x = c.args in packed_tests x.w x.q x.packed.now ++ length_test (2 * log₂ x.q) x.point.now ++ room_test (2 * x.w + 2 * x.q) x.s.now in
-    let early : c.refuse-n-2.result ≡ first_refusal 0 (first) =
-        rw (c.refuse-n-2.ensures, c.is_size-2.ensures, c.refuse-n.ensures, c.is_size.ensures, half-size c.args.w) in
-    let late : c.refuse-n-5.result ≡ first_refusal 0 (rest) =
-        rw (c.refuse-n-5.ensures, c.refuse-n-4.ensures, c.log2.ensures.0, c.refuse-n-3.ensures, c.login_words.ensures) in
-    let small : Small c.args.w c.args.q =
-        let k = (first-refusal-clear 0 (first) refl (sym (early) ∙ c.if-n-ne0.false)).1 in
-        let z = not-bad k.0 in
-        record { half = omega (arith, z.high); logins = not-bad k.1.0 } in
-    let fits : Fits c.args.w c.args.q c.args.packed.now c.args.point.now c.args.s.now =
-        let k = (first-refusal-clear 0 (rest) refl (sym (late) ∙ c.if-n-ne0-2.false)).1 in
-        record { packed = eqb-true _ _ (not-false _ k.0); point = eqb-true _ _ (not-false _ k.1.0); room = ltb-false _ _ k.1.1.0 } in
     let x = c.args in
-    let f = fits in
-    let m = small in
+    let early : c.refuse-n-2.result ≡ first_refusal 0 (first x.w x.q) =
+        rw (c.refuse-n-2.ensures, c.is_size-2.ensures, c.refuse-n.ensures, c.is_size.ensures, half-size x.w) in
+    let late : c.refuse-n-5.result ≡ first_refusal 0 (rest x.w x.q x.packed.now x.point.now x.s.now) =
+        rw (c.refuse-n-5.ensures, c.refuse-n-4.ensures, c.log2.ensures.0, c.refuse-n-3.ensures, c.login_words.ensures) in
+    let m = small x.w x.q _ early c.if-n-ne0.false in
+    let f = fits x.w x.q x.packed.now x.point.now x.s.now _ late c.if-n-ne0-2.false in
     let l = length-take-le (2 * x.w + 2 * x.q) x.s.now f.room in record {
       w_bound = (m.half, m.logins.high, f.packed);
       s_len = l;
@@ -177,27 +152,15 @@ fold_one-requires c =
 pub returns : goal.returns
 unfolding fold_in_refusal
 returns c =
-    let first : Tests =
-        size_tests (2 * c.args.w) c.args.q in
-    let rest : Tests =
-        let x = c.args in packed_tests x.w x.q x.packed.now ++ length_test (2 * log₂ x.q) x.point.now ++ room_test (2 * x.w + 2 * x.q) x.s.now in
-    let early : c.refuse-n-2.result ≡ first_refusal 0 (first) =
-        rw (c.refuse-n-2.ensures, c.is_size-2.ensures, c.refuse-n.ensures, c.is_size.ensures, half-size c.args.w) in
-    let late : c.refuse-n-5.result ≡ first_refusal 0 (rest) =
+    let x = c.args in
+    let early : c.refuse-n-2.result ≡ first_refusal 0 (first x.w x.q) =
+        rw (c.refuse-n-2.ensures, c.is_size-2.ensures, c.refuse-n.ensures, c.is_size.ensures, half-size x.w) in
+    let late : c.refuse-n-5.result ≡ first_refusal 0 (rest x.w x.q x.packed.now x.point.now x.s.now) =
         rw (c.refuse-n-5.ensures, c.refuse-n-4.ensures, c.log2.ensures.0, c.refuse-n-3.ensures, c.login_words.ensures) in
-    let small : Small c.args.w c.args.q =
-        let k = (first-refusal-clear 0 (first) refl (sym (early) ∙ c.if-n-ne0.false)).1 in
-        let z = not-bad k.0 in
-        record { half = omega (arith, z.high); logins = not-bad k.1.0 } in
-    let fits : Fits c.args.w c.args.q c.args.packed.now c.args.point.now c.args.s.now =
-        let k = (first-refusal-clear 0 (rest) refl (sym (late) ∙ c.if-n-ne0-2.false)).1 in
-        record { packed = eqb-true _ _ (not-false _ k.0); point = eqb-true _ _ (not-false _ k.1.0); room = ltb-false _ _ k.1.1.0 } in
-    let k = c in
-    let s = c in
-    let x = s.args in
-    let e = sym k.if-n-ne0-2.false ∙ first-refusal-late (first) (rest) _ _ (early) k.if-n-ne0.false (late) in
-    let f = fits in
-    let z = sized-wider 65536 (lit≤ tt) (small).logins in record {
+    let m = small x.w x.q _ early c.if-n-ne0.false in
+    let f = fits x.w x.q x.packed.now x.point.now x.s.now _ late c.if-n-ne0-2.false in
+    let e = sym c.if-n-ne0-2.false ∙ first-refusal-late (first x.w x.q) (rest x.w x.q x.packed.now x.point.now x.s.now) _ _ early c.if-n-ne0.false late in
+    let z = sized-wider 65536 (lit≤ tt) m.logins in record {
       answer = e;
       folded = rw (
         c.fold_one.ensures,

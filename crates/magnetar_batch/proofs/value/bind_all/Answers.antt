@@ -13,7 +13,7 @@ loop-j-init c =
     let g = c.requires in (
       search rules,
       g.2,
-      (λ i. omega (arith, c.slice_known-1.given i)),
+      (λ i. omega (arith, c.type_inv.t i)),
       evaluating-start _ _ _ _ (rw elements-length (omega (arith, g.1))) (rw elements-length (omega (arith, g.2))) refl,
     )
 
@@ -25,22 +25,19 @@ bind_highest-requires c =
 
 pub loop-j-preserved : goal.loop-j-preserved
 loop-j-preserved c =
-    let b = c in
-    let l = b.loop-j in
-    let g = b.requires in
-    let h = b.loop-j-test.true in (
+    let l = c.loop-j in
+    let g = c.requires in
+    let h = c.loop-j-test.true in (
       omega (arith, l.invariant.0),
-      b.bind_highest.auto.t ∙ l.invariant.1,
-      (λ i. omega (arith, c.slice_known-in-loop-j-1.given i)),
+      c.bind_highest.auto.t ∙ l.invariant.1,
+      (λ i. omega (arith, c.type_inv.t i)),
       bound-more _ _ _ _ l.j l.invariant.3 h (rw elements-length (omega (arith, g.1, l.invariant.0)))
-          (rw elements-length (half_room l.j _ _ l.invariant.0 l.invariant.1)) (b.bind_highest.ensures ∙ rw b.get.ensures),
+          (rw elements-length (half_room l.j _ _ l.invariant.0 l.invariant.1)) (c.bind_highest.ensures ∙ rw c.get.ensures),
     )
 
 pub returns : goal.returns
 returns c =
-    let k = c in
-    let v = c in
-    let l = v.loop-j in (
-      v.get-v.ensures ∙ evaluating-end _ _ _ _ _ (elements-below _ l.invariant.2 0) v.loop-j-test.false l.invariant.3,
-      k.clear.ensures ∙ ap (λ (n : ℕ). replicate n 0) (l.invariant.1 ∙ sym v.requires.2),
+    let l = c.loop-j in (
+      c.get-v.ensures ∙ evaluating-end _ _ _ _ _ (elements-below _ l.invariant.2 0) c.loop-j-test.false l.invariant.3,
+      c.clear.ensures ∙ ap (λ (n : ℕ). replicate n 0) (l.invariant.1 ∙ sym c.requires.2),
     )

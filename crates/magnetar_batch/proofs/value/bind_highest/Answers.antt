@@ -17,9 +17,7 @@ slice_bounds-bind_var-end-2 c = rw length-take (omega (arith, power c.args.j c.r
 
 pub returns : goal.returns
 returns c =
-    let b = c in
-    let w = c in
-    let x = w.args in
-    let g = w.requires in
-    let e = power x.j g.0 w.power_of_two-e.result w.power_of_two-e.ensures in
-    rw e (highest-bound x.j (value x.r) x.t.now b.bind_var-done.new.table g.0 g.1 (b.bind_var-done.ensures.bound ∙ rw e))
+    let x = c.args in
+    let g = c.requires in
+    let e = power x.j g.0 c.power_of_two-e.result c.power_of_two-e.ensures in
+    rw e (highest-bound x.j (value x.r) x.t.now c.bind_var-done.new.table g.0 g.1 (c.bind_var-done.ensures.bound ∙ rw e))

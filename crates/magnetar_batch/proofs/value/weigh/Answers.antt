@@ -3,17 +3,14 @@ use Rattle.magnetar_batch.proofs.value.weigh.Goals as goal
 
 pub returns : goal.returns
 returns c =
-    let z = c in
-    let y = c in
-    let x = c in
     rw (
       c.add-2.ensures,
       c.add.ensures,
-      z.mul-z.ensures,
-      z.get-3.ensures,
-      y.mul-y.ensures,
-      y.get-2.ensures,
-      x.mul-x.ensures,
-      x.get.ensures,
-      x.least-i.ensures.0,
+      c.mul-z.ensures,
+      c.get-3.ensures,
+      c.mul-y.ensures,
+      c.get-2.ensures,
+      c.mul-x.ensures,
+      c.get.ensures,
+      c.least-i.ensures.0,
     )

@@ -7,8 +7,7 @@ use Rattle.magnetar_check.proofs.check.check_login.Goals as goal
 
 pub returns : goal.returns
 returns c =
-    let half = c in
-    let x = half.args in
+    let x = c.args in
     let es = entries_of x.row.now x.col.now x.lo.now x.hi.now in
     let z = z_of x.w x.bits.now (elements x.x.now) in
     let h = c.entries_held-h.ensures.0 in

@@ -8,4 +8,4 @@ pub returns : goal.returns
 returns c =
     let x = c.args in
     login-ends x.r x.k x.u (login_z x.w x.packed.now x.x.now x.u) (system_in x.n x.a x.b x.c x.d (entries_of_records x.es.now)) x.s.now _ _ _ _ _ _
-    c.twice.ensures c.product.ensures c.product-2.ensures c.product-3.ensures c.first_bad.ensures
+    c.twice-twice.ensures c.product.ensures c.product-2.ensures c.product-3.ensures c.first_bad.ensures

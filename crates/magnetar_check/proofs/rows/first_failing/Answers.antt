@@ -1,7 +1,6 @@
 use mathlib.Core.Path.{sym, ◌∙◌}
 use Rattle.core.specs.Prelude.{◌-◌, ◌≤◌}
 use native.Mathlib.Omega.{arith}
-use borrow.Author.Tests.{not-true, not-false}
 use Rattle.magnetar_field.specs.Words.{elements}
 use Rattle.magnetar_matrix.specs.RowCheck.{holds_at}
 use Rattle.magnetar_matrix.proofs.FirstRow.{Below, below-start, below_more, first-is, first-end, rows-past}
@@ -25,7 +24,7 @@ returns-then-not-equal c =
       ← c.get-in-loop-row.ensures,
       ← c.get-in-loop-row-2.ensures,
       ← c.mul-p.ensures,
-    ) (sym c.equal.ensures ∙ not-true _ c.if-not-equal.true))
+    ) (sym c.equal.ensures ∙ c.if-not-equal.true))
 
 pub loop-row-preserved : goal.loop-row-preserved
 unfolding holds_at
@@ -39,7 +38,7 @@ loop-row-preserved c =
             ← c.get-in-loop-row.ensures,
             ← c.get-in-loop-row-2.ensures,
             ← c.mul-p.ensures,
-          ) (sym c.equal.ensures ∙ not-false _ c.if-not-equal.false)),
+          ) (sym c.equal.ensures ∙ c.if-not-equal.false)),
     )
 
 pub returns : goal.returns
