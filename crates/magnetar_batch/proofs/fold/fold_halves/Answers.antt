@@ -42,6 +42,6 @@ returns c =
     replicate (2 * x.w + 2 * x.q) 0 = c.clear.ensures ∙ ap (λ (n : ℕ). replicate n 0) r in
     let k : 2 * x.w + table_words x.point.now ≡ 2 * x.w + 2 * x.q = omega (arith, p.room) in
     finished (half_sum x.w x.x.now (eq_table (elements x.point.now)) x.q) x.w x.q c.add_halves.new.s c.clear_behind.new.s
-    (omega (arith, a, b, d, r)) (λ i. omega arith)
+    (omega (arith, a, b, d, r)) (λ i. omega (arith, c.type_inv.s i))
     (one-slice (λ fs. half_sum x.w x.x.now fs x.q) x.w x.q (2 * x.w + table_words x.point.now) (elements x.point.now) c.clear.new.s c.eq_behind.new.s c.add_halves.new.s z k c.eq_behind.ensures c.add_halves.ensures)
     c.clear_behind.ensures

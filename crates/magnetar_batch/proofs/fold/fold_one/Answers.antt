@@ -42,6 +42,6 @@ returns c =
     replicate (2 * x.w + 2 * x.q) 0 = c.clear.ensures ∙ ap (λ (n : ℕ). replicate n 0) r in
     let k : 2 * x.w + table_words x.point.now ≡ 2 * x.w + 2 * x.q = omega (arith, p.room) in
     finished (fold_sum x.w x.packed.now (eq_table (elements x.point.now)) x.q) x.w x.q c.add_logins_in.new.s c.clear_behind.new.s
-    (omega (arith, a, b, d, r)) (λ i. omega arith)
+    (omega (arith, a, b, d, r)) (λ i. omega (arith, c.type_inv.s i))
     (one-slice (λ fs. fold_sum x.w x.packed.now fs x.q) x.w x.q (2 * x.w + table_words x.point.now) (elements x.point.now) c.clear.new.s c.eq_behind.new.s c.add_logins_in.new.s z k c.eq_behind.ensures c.add_logins_in.ensures)
     c.clear_behind.ensures
