@@ -1,12 +1,13 @@
 // The claims against the bits: whoever holds the bits of the commitment does this once a proof is accepted. A claim is the value of a
 // segment of the logins, folded at r_inst, at the front of r_low. The claims are r_inst, 2 elements, r_low, 5, and a value for each segment.
-use crate::text::print;
+use crate::text::{Out, print};
 use crate::{rules, text, vault};
 use magnetar_batch::fold;
 use magnetar_field::gf128::{Evaluated, Gf128};
 use magnetar_field::words;
 use magnetar_layout::layout;
 use magnetar_multilinear::multilinear;
+use std::io;
 
 // The words from a to b.
 pub(crate) fn between(s: &[u64], a: usize, b: usize) -> &[u64] {
@@ -55,15 +56,14 @@ fn first_false(z: &[u64], claims: &[u64]) -> usize {
     3
 }
 
-fn print_claims(z: &[u64], claims: &[u64]) {
+fn print_claims(stdout: &mut Out, z: &[u64], claims: &[u64]) -> io::Result<()> {
     let i = first_false(z, claims);
     if i == 3 {
-        print(b"all three are true of the committed bits\n");
-        return;
+        return print(stdout, b"all three are true of the committed bits\n");
     }
-    print(b"that on segment ");
-    text::count(i);
-    print(b" is not true of the committed bits\n");
+    print(stdout, b"that on segment ")?;
+    text::count(stdout, i)?;
+    print(stdout, b" is not true of the committed bits\n")
 }
 
 fn same_hash(a: [u8; 32], b: [u8; 32]) -> bool {
@@ -78,12 +78,16 @@ fn same_hash(a: [u8; 32], b: [u8; 32]) -> bool {
 }
 
 // What the claims say of the bits of a commitment.
-pub(crate) fn claims(packed: &[u64], committed: [u8; 32], claims: &[u64]) {
+pub(crate) fn claims(
+    stdout: &mut Out,
+    packed: &[u64],
+    committed: [u8; 32],
+    claims: &[u64],
+) -> io::Result<()> {
     let again = vault::commitment(packed);
     if !same_hash(again, committed) {
-        print(b"these are not the committed bits\n");
-        return;
+        return print(stdout, b"these are not the committed bits\n");
     }
     let z = folded(packed, claims);
-    print_claims(&z, claims);
+    print_claims(stdout, &z, claims)
 }

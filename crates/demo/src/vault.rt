@@ -1,12 +1,13 @@
 // A login as bits, and its public columns. Columns 0 to 7 are the secret, 8 says that it is saved, 9 is the checksum, 10 and 11 are the
 // key edition, 12 to 15 the folder. Columns 16 to 22 help the rule on empty secrets: 16 to 19 say that two of the secret's bits are both
 // 0, 20 and 21 that four are, 22 that all are.
-use crate::text::print;
+use crate::text::{Out, print};
 use crate::{rules, text};
 use magnetar_field::gf128::Gf128;
 use magnetar_field::{gf128, words};
 use magnetar_hash::transcript;
 use magnetar_hash::transcript::Transcript;
+use std::io;
 
 // Whether bits 0 and 1 are both 0.
 fn none2(s: u64) -> u64 {
@@ -149,21 +150,21 @@ pub(crate) fn exchanged(x: &[u64], claims: &[u64]) -> [u64; rules::PUBLIC] {
 }
 
 // A login's line.
-pub(crate) fn print_login(packed: &[u64], u: usize) {
+pub(crate) fn print_login(stdout: &mut Out, packed: &[u64], u: usize) -> io::Result<()> {
     let w = get(packed, u);
-    print(b"    ");
-    text::count(u);
-    print(b"   0x");
-    text::hex(w & 255, 2);
-    print(b"         ");
-    text::number((w >> 8) & 1);
-    print(b"          ");
-    text::number((w >> 9) & 1);
-    print(b"         ");
-    text::number((w >> 10) & 3);
-    print(b"        ");
-    text::number((w >> 12) & 15);
-    print(b"   0x");
-    text::hex(w, 8);
-    print(b"\n");
+    print(stdout, b"    ")?;
+    text::count(stdout, u)?;
+    print(stdout, b"   0x")?;
+    text::hex(stdout, w & 255, 2)?;
+    print(stdout, b"         ")?;
+    text::number(stdout, (w >> 8) & 1)?;
+    print(stdout, b"          ")?;
+    text::number(stdout, (w >> 9) & 1)?;
+    print(stdout, b"         ")?;
+    text::number(stdout, (w >> 10) & 3)?;
+    print(stdout, b"        ")?;
+    text::number(stdout, (w >> 12) & 15)?;
+    print(stdout, b"   0x")?;
+    text::hex(stdout, w, 8)?;
+    print(stdout, b"\n")
 }

@@ -1,13 +1,14 @@
 // The same calls over records, on words of their own: each says whether all that it hands back is what the core did. Where the entries
 // cannot be records each writes a line `alone`, and nothing is compared.
 use crate::checks::{thirty_two, twelve};
-use crate::text::{self, MARK, at, at_size, first_sizes};
+use crate::text::{self, MARK, Out, at, at_size, first_sizes};
 use crate::{lent, told};
 use magnetar_batch::value::Valued;
 use magnetar_check::check::RowCheck;
 use magnetar_field::gf128;
 use magnetar_hash::transcript::{Transcript, TranscriptAnswer};
 use magnetar_records::records::Entry;
+use std::io;
 
 // The record at index i.
 fn record(given: &[u64], sizes: &[usize], i: usize) -> Entry {
@@ -52,12 +53,12 @@ pub(crate) fn count(given: &[u64], sizes: &[usize]) -> usize {
 }
 
 // Whether so many records cannot be lent: then a line `alone`.
-pub(crate) fn too_many(n: usize) -> bool {
+pub(crate) fn too_many(stdout: &mut Out, n: usize) -> io::Result<bool> {
     if n > 384 {
-        text::alone();
-        return true;
+        text::alone(stdout)?;
+        return Ok(true);
     }
-    false
+    Ok(false)
 }
 
 fn same_answer(a: TranscriptAnswer, b: TranscriptAnswer) -> bool {
@@ -74,10 +75,17 @@ fn same_answer(a: TranscriptAnswer, b: TranscriptAnswer) -> bool {
 }
 
 // The masks of the first matrix.
-pub(crate) fn masks(nums: &[u64], given: &[u64], sizes: &[usize], code: u32, out: &[u64]) -> bool {
+pub(crate) fn masks(
+    stdout: &mut Out,
+    nums: &[u64],
+    given: &[u64],
+    sizes: &[usize],
+    code: u32,
+    out: &[u64],
+) -> io::Result<bool> {
     if count(given, sizes) > 384 {
-        text::alone();
-        return true;
+        text::alone(stdout)?;
+        return Ok(true);
     }
     let a = told::first(sizes);
     let n = first_sizes(told::row(sizes), a.entries).len();
@@ -95,23 +103,24 @@ pub(crate) fn masks(nums: &[u64], given: &[u64], sizes: &[usize], code: u32, out
         o,
     );
     if c == code {
-        return text::same(o, out);
+        return Ok(text::same(o, out));
     }
-    false
+    Ok(false)
 }
 
 // The combined table.
 pub(crate) fn combo(
+    stdout: &mut Out,
     nums: &[u64],
     given: &[u64],
     sizes: &[usize],
     code: u32,
     out: &[u64],
     scratch: &[u64],
-) -> bool {
+) -> io::Result<bool> {
     let n = count(given, sizes);
-    if too_many(n) {
-        return true;
+    if too_many(stdout, n)? {
+        return Ok(true);
     }
     let mut room = [MARK; 2048];
     let mut words = text::room();
@@ -130,23 +139,24 @@ pub(crate) fn combo(
     );
     if c == code {
         if text::same(o, out) {
-            return text::same(s, scratch);
+            return Ok(text::same(s, scratch));
         }
     }
-    false
+    Ok(false)
 }
 
 // The combined table at a column point.
 pub(crate) fn value(
+    stdout: &mut Out,
     nums: &[u64],
     given: &[u64],
     sizes: &[usize],
     r: Valued,
     scratch: &[u64],
-) -> bool {
+) -> io::Result<bool> {
     let n = count(given, sizes);
-    if too_many(n) {
-        return true;
+    if too_many(stdout, n)? {
+        return Ok(true);
     }
     let mut words = text::room();
     let s = text::front(&mut words, scratch.len());
@@ -163,14 +173,15 @@ pub(crate) fn value(
     );
     if again.code == r.code {
         if gf128::equal(again.value, r.value) {
-            return text::same(s, scratch);
+            return Ok(text::same(s, scratch));
         }
     }
-    false
+    Ok(false)
 }
 
 // The verifier.
 pub(crate) fn verify(
+    stdout: &mut Out,
     given: &[u64],
     sizes: &[usize],
     t: Transcript,
@@ -178,10 +189,10 @@ pub(crate) fn verify(
     r: TranscriptAnswer,
     claims: &[u64],
     scratch: &[u64],
-) -> bool {
+) -> io::Result<bool> {
     let n = count(given, sizes);
-    if too_many(n) {
-        return true;
+    if too_many(stdout, n)? {
+        return Ok(true);
     }
     let mut room = [MARK; 256];
     let mut words = text::room();
@@ -202,10 +213,10 @@ pub(crate) fn verify(
     );
     if same_answer(again, r) {
         if text::same(c, claims) {
-            return text::same(s, scratch);
+            return Ok(text::same(s, scratch));
         }
     }
-    false
+    Ok(false)
 }
 
 // What a row check says, as numbers.
@@ -256,10 +267,16 @@ fn same_said(a: Said, b: Said) -> bool {
 }
 
 // The row check.
-pub(crate) fn check(given: &[u64], sizes: &[usize], r: RowCheck, scratch: &[u64]) -> bool {
+pub(crate) fn check(
+    stdout: &mut Out,
+    given: &[u64],
+    sizes: &[usize],
+    r: RowCheck,
+    scratch: &[u64],
+) -> io::Result<bool> {
     let n = count(given, sizes);
-    if too_many(n) {
-        return true;
+    if too_many(stdout, n)? {
+        return Ok(true);
     }
     let mut words = text::room();
     let s = text::front(&mut words, scratch.len());
@@ -275,13 +292,14 @@ pub(crate) fn check(given: &[u64], sizes: &[usize], r: RowCheck, scratch: &[u64]
         told::x(given),
     );
     if same_said(place(again), place(r)) {
-        return text::same(s, scratch);
+        return Ok(text::same(s, scratch));
     }
-    false
+    Ok(false)
 }
 
 // The prover.
 pub(crate) fn prove(
+    stdout: &mut Out,
     given: &[u64],
     sizes: &[usize],
     t: Transcript,
@@ -289,10 +307,10 @@ pub(crate) fn prove(
     proof: &[u64],
     claims: &[u64],
     scratch: &[u64],
-) -> bool {
+) -> io::Result<bool> {
     let n = count(given, sizes);
-    if too_many(n) {
-        return true;
+    if too_many(stdout, n)? {
+        return Ok(true);
     }
     let mut sent = [MARK; 2048];
     let mut room = [MARK; 256];
@@ -317,9 +335,9 @@ pub(crate) fn prove(
     if same_answer(again, r) {
         if text::same(p, proof) {
             if text::same(c, claims) {
-                return text::same(s, scratch);
+                return Ok(text::same(s, scratch));
             }
         }
     }
-    false
+    Ok(false)
 }

@@ -1,5 +1,5 @@
 // The verifier's checks with given elements in the place of the draws.
-use crate::text::{self, MARK, at, print};
+use crate::text::{self, MARK, Out, at, print};
 use crate::told;
 use magnetar_batch::{eval, fold};
 use magnetar_field::gf128::{self, Gf128};
@@ -9,6 +9,7 @@ use magnetar_multilinear::eq::EqBits;
 use magnetar_multilinear::multilinear;
 use magnetar_protocol::first::Found;
 use magnetar_verifier::{claims, end, outer};
+use std::io;
 
 // The query by name: its letters, the last one lowest.
 const CHECKS: u64 = 0x636865636b73;
@@ -133,39 +134,53 @@ fn half_value(nums: &[u64], given: &[u64], sizes: &[usize], scratch: &mut [u64])
 }
 
 // The number, and how many events come before the check that gave it.
-fn print_found(f: Found) {
-    print(b"= ");
-    text::print_number(text::wide(f.code));
-    print(b" ");
-    text::print_count(f.events);
-    print(b"\n");
+fn print_found(stdout: &mut Out, f: Found) -> io::Result<()> {
+    print(stdout, b"= ")?;
+    text::print_number(stdout, text::wide(f.code))?;
+    print(stdout, b" ")?;
+    text::print_count(stdout, f.events)?;
+    print(stdout, b"\n")
 }
 
 // The checks of the end and the claims.
-fn ended(nums: &[u64], given: &[u64], sizes: &[usize], claims: &mut [u64], scratch: &mut [u64]) {
+fn ended(
+    stdout: &mut Out,
+    nums: &[u64],
+    given: &[u64],
+    sizes: &[usize],
+    claims: &mut [u64],
+    scratch: &mut [u64],
+) -> io::Result<()> {
     let v = table_value(nums, given, sizes, scratch);
     let p = half_value(nums, given, sizes, scratch);
     let f = last(nums, sizes, v, p);
-    print_found(f);
+    print_found(stdout, f)?;
     if f.code == 0 {
-        text::print_code(claimed(nums, sizes, claims), claims);
+        text::print_code(stdout, claimed(nums, sizes, claims), claims)?;
     }
+    Ok(())
 }
 
 // Answers the query, or says that it is none.
-pub(crate) fn answered(op: u64, nums: &[u64], given: &[u64], sizes: &[usize]) -> bool {
+pub(crate) fn answered(
+    stdout: &mut Out,
+    op: u64,
+    nums: &[u64],
+    given: &[u64],
+    sizes: &[usize],
+) -> io::Result<bool> {
     if op != CHECKS {
-        return false;
+        return Ok(false);
     }
     let mut room = [MARK; 256];
     let mut words = text::room();
     let told_to = text::front(&mut room, text::size(at(nums, 0)));
     let part = text::front(&mut words, text::size(at(nums, 1)));
     let f = first(nums, sizes);
-    print_found(f);
+    print_found(stdout, f)?;
     if f.code == 0 {
-        ended(nums, given, sizes, told_to, part);
-        text::print_cleared(part);
+        ended(stdout, nums, given, sizes, told_to, part)?;
+        text::print_cleared(stdout, part)?;
     }
-    true
+    Ok(true)
 }

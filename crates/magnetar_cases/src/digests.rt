@@ -4,13 +4,14 @@ ghost use Rattle.magnetar_relation.specs.Rules.{rules_over};
 ghost use Rattle.magnetar_records.specs.Records.{entries_of_records};
 ghost use Rattle.magnetar_digest.specs.Digest.{digest_answer};
 
-use crate::text::{self, print};
+use crate::text::{self, Out, print};
 use crate::{again, runs, told};
 use magnetar_digest::{digest, digest_records};
 use magnetar_field::sizes;
 use magnetar_hash::sha3::DigestAnswer;
 use magnetar_records::records::Entry;
 use magnetar_relation::shapes::Shapes;
+use std::io;
 
 // The query by name: its letters, the last one lowest.
 const DIGEST: u64 = 0x646967657374;
@@ -34,13 +35,13 @@ fn same(a: DigestAnswer, b: DigestAnswer) -> bool {
 }
 
 // Whether the records have the same answer, or a line `alone` where the entries cannot be records.
-fn again(given: &[u64], sizes: &[usize], r: DigestAnswer) -> bool {
+fn again(stdout: &mut Out, given: &[u64], sizes: &[usize], r: DigestAnswer) -> io::Result<bool> {
     let n = again::count(given, sizes);
-    if again::too_many(n) {
-        return true;
+    if again::too_many(stdout, n)? {
+        return Ok(true);
     }
     let es = again::records(given, sizes);
-    same(
+    Ok(same(
         lent(
             told::m(sizes),
             told::q(sizes),
@@ -50,19 +51,24 @@ fn again(given: &[u64], sizes: &[usize], r: DigestAnswer) -> bool {
             n,
         ),
         r,
-    )
+    ))
 }
 
 // The digest, after the number of the refusal where there is one.
-fn print_answer(r: DigestAnswer) {
+fn print_answer(stdout: &mut Out, r: DigestAnswer) -> io::Result<()> {
     let d = r.digest;
-    text::print_sign(r.code);
-    runs::print_bytes(&d);
-    print(b"\n");
+    text::print_sign(stdout, r.code)?;
+    runs::print_bytes(stdout, &d)?;
+    print(stdout, b"\n")
 }
 
 // digest: the digest of the relation.
-pub(crate) fn answered(op: u64, given: &[u64], sizes: &[usize]) -> bool {
+pub(crate) fn answered(
+    stdout: &mut Out,
+    op: u64,
+    given: &[u64],
+    sizes: &[usize],
+) -> io::Result<bool> {
     if op == DIGEST {
         let r = digest::relation_digest(
             told::m(sizes),
@@ -74,9 +80,10 @@ pub(crate) fn answered(op: u64, given: &[u64], sizes: &[usize]) -> bool {
             told::lo(given),
             told::hi(given),
         );
-        text::agreed(again(given, sizes, r));
-        print_answer(r);
-        return true;
+        let same = again(stdout, given, sizes, r)?;
+        text::agreed(stdout, same)?;
+        print_answer(stdout, r)?;
+        return Ok(true);
     }
-    false
+    Ok(false)
 }

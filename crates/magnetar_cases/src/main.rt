@@ -13,81 +13,107 @@ mod tables;
 mod text;
 mod told;
 
-use crate::text::print;
+use crate::text::{Out, print};
+use std::io;
+use std::io::{BufWriter, Read, Write};
 
 // The line that tells a relation, by name: its letters, the last one lowest.
 const CASE: u64 = 0x63617365;
 
 // Answers a query on the last relation, or says that it is none.
-fn answered(line: &[u8], nums: &[u64], given: &[u64], sizes: &[usize]) -> bool {
+fn answered(
+    stdout: &mut Out,
+    line: &[u8],
+    nums: &[u64],
+    given: &[u64],
+    sizes: &[usize],
+) -> io::Result<bool> {
     let op = text::name(line);
-    if tables::answered(op, nums, given, sizes) {
-        return true;
+    if tables::answered(stdout, op, nums, given, sizes)? {
+        return Ok(true);
     }
-    if rowcheck::answered(op, nums, given, sizes) {
-        return true;
+    if rowcheck::answered(stdout, op, nums, given, sizes)? {
+        return Ok(true);
     }
-    if digests::answered(op, given, sizes) {
-        return true;
+    if digests::answered(stdout, op, given, sizes)? {
+        return Ok(true);
     }
-    if checks::answered(op, nums, given, sizes) {
-        return true;
+    if checks::answered(stdout, op, nums, given, sizes)? {
+        return Ok(true);
     }
-    runs::answered(op, runs::state(line), nums, given, sizes)
+    runs::answered(stdout, op, runs::state(line), nums, given, sizes)
 }
 
 // One line: the numbers of the last relation are in `given` and, as sizes, in `sizes`.
-fn answer(line: &[u8], nums: &mut [u64], given: &mut [u64], sizes: &mut [usize]) {
+fn answer(
+    stdout: &mut Out,
+    line: &[u8],
+    nums: &mut [u64],
+    given: &mut [u64],
+    sizes: &mut [usize],
+) -> io::Result<()> {
     if text::byte(line, 0) == b'#' {
-        print(line);
-        print(b"\n");
-        return;
+        print(stdout, line)?;
+        return print(stdout, b"\n");
     }
     if text::name(line) == CASE {
         text::fill(given, 0);
         if text::numbers(line, given) > given.len() {
-            text::too_long();
+            text::too_long(stdout)?;
         }
         text::as_sizes(given, sizes);
-        return;
+        return Ok(());
     }
     let n = text::numbers(line, nums);
     if n > nums.len() {
-        text::too_long();
-        return;
+        return text::too_long(stdout);
     }
-    if answered(line, text::first(nums, n), given, sizes) {
-        return;
+    if answered(stdout, line, text::first(nums, n), given, sizes)? {
+        return Ok(());
     }
-    print(b"? unknown query\n");
+    print(stdout, b"? unknown query\n")
 }
 
-fn answer_all(input: &[u8], nums: &mut [u64], given: &mut [u64], sizes: &mut [usize]) {
+fn answer_all(
+    stdout: &mut Out,
+    input: &[u8],
+    nums: &mut [u64],
+    given: &mut [u64],
+    sizes: &mut [usize],
+) -> io::Result<()> {
     let mut from = 0;
     while from < input.len() {
         let to = text::find(input, from, b'\n');
-        answer(&input[from..to], nums, given, sizes);
+        answer(stdout, &input[from..to], nums, given, sizes)?;
         if to == input.len() {
-            return;
+            return Ok(());
         }
         from = to + 1;
     }
+    Ok(())
 }
 
 // Answers all that is read.
-fn run(input: &mut [u8], nums: &mut [u64], given: &mut [u64], sizes: &mut [usize]) {
-    let n = io::read_full(libc::STDIN_FILENO, input);
-    if n == input.len() {
-        text::too_long();
-        return;
+fn run(
+    stdout: &mut Out,
+    input: &[u8],
+    nums: &mut [u64],
+    given: &mut [u64],
+    sizes: &mut [usize],
+) -> io::Result<()> {
+    if input.len() == text::MOST {
+        return text::too_long(stdout);
     }
-    answer_all(text::first_bytes(input, n), nums, given, sizes);
+    answer_all(stdout, input, nums, given, sizes)
 }
 
-fn main() {
-    let mut input = text::input();
+fn main(rt: HostRuntime) -> io::Result<()> {
+    let mut stdout = BufWriter::new(rt.alloc(), rt.stdout())?;
+    let mut input = Vec::new(rt.alloc());
+    rt.reader().take(text::MOST as u64).read_to_end(&mut input)?;
     let mut nums = [0u64; 1024];
     let mut given = [0u64; 18432];
     let mut sizes = [0usize; 18432];
-    run(&mut input, &mut nums, &mut given, &mut sizes);
+    run(&mut stdout, &input, &mut nums, &mut given, &mut sizes)?;
+    stdout.flush()
 }

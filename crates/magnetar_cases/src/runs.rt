@@ -1,9 +1,10 @@
 // Whole runs: the prover and the verifier on a relation and its batch.
-use crate::text::{self, MARK, at, print};
+use crate::text::{self, MARK, Out, at, print};
 use crate::{again, told};
-use libc::STDOUT_FILENO;
 use magnetar_hash::transcript::{Transcript, TranscriptAnswer};
 use magnetar_spartan::virtual_spartan;
+use std::io;
+use std::io::Write;
 
 // The queries by name: its letters, the last one lowest.
 const PROVE: u64 = 0x70726f7665;
@@ -30,32 +31,33 @@ fn pair(line: &[u8], i: usize) -> u8 {
 }
 
 // Two digits for each byte.
-pub(crate) fn print_bytes(s: &[u8]) {
+pub(crate) fn print_bytes(stdout: &mut Out, s: &[u8]) -> io::Result<()> {
     let mut i = 0;
     while i < s.len() {
-        io::print_hex(STDOUT_FILENO, text::wide_byte(s[i]), 2);
+        write!(stdout, "{:02x}", s[i])?;
         i += 1;
     }
+    Ok(())
 }
 
-fn print_line(s: &[u64]) {
-    print(b"= ");
-    text::print_words(s);
-    print(b"\n");
+fn print_line(stdout: &mut Out, s: &[u64]) -> io::Result<()> {
+    print(stdout, b"= ")?;
+    text::print_words(stdout, s)?;
+    print(stdout, b"\n")
 }
 
-fn print_state(t: Transcript) {
+fn print_state(stdout: &mut Out, t: Transcript) -> io::Result<()> {
     let s = t.state;
-    print_bytes(&s);
-    print(b" ");
-    text::print_number(t.squeeze_ctr);
-    print(b"\n");
+    print_bytes(stdout, &s)?;
+    print(stdout, b" ")?;
+    text::print_number(stdout, t.squeeze_ctr)?;
+    print(stdout, b"\n")
 }
 
 // The transcript after a call, after the number of the refusal where there is one.
-fn print_answer(r: TranscriptAnswer) {
-    text::print_sign(r.code);
-    print_state(r.transcript);
+fn print_answer(stdout: &mut Out, r: TranscriptAnswer) -> io::Result<()> {
+    text::print_sign(stdout, r.code)?;
+    print_state(stdout, r.transcript)
 }
 
 fn proved(
@@ -115,7 +117,13 @@ fn verified(
 }
 
 // prove STATE CTR P C S: the prover with P words lent for the proof, C for the claims and S as scratch.
-fn prove(given: &[u64], sizes: &[usize], nums: &[u64], t: Transcript) {
+fn prove(
+    stdout: &mut Out,
+    given: &[u64],
+    sizes: &[usize],
+    nums: &[u64],
+    t: Transcript,
+) -> io::Result<()> {
     let mut sent = [MARK; 2048];
     let mut room = [MARK; 256];
     let mut words = text::room();
@@ -123,76 +131,107 @@ fn prove(given: &[u64], sizes: &[usize], nums: &[u64], t: Transcript) {
     let claims = text::front(&mut room, text::size(at(nums, 3)));
     let scratch = text::front(&mut words, text::size(at(nums, 4)));
     let r = proved(given, sizes, t, proof, claims, scratch);
-    text::agreed(again::prove(given, sizes, t, r, proof, claims, scratch));
-    print_answer(r);
-    print_line(proof);
-    print_line(claims);
-    text::print_cleared(scratch);
+    let same = again::prove(stdout, given, sizes, t, r, proof, claims, scratch)?;
+    text::agreed(stdout, same)?;
+    print_answer(stdout, r)?;
+    print_line(stdout, proof)?;
+    print_line(stdout, claims)?;
+    text::print_cleared(stdout, scratch)
 }
 
 // The verifier with c words lent for the claims and s as scratch.
-fn verify_in(given: &[u64], sizes: &[usize], c: u64, s: u64, proof: &[u64], t: Transcript) {
+fn verify_in(
+    stdout: &mut Out,
+    given: &[u64],
+    sizes: &[usize],
+    c: u64,
+    s: u64,
+    proof: &[u64],
+    t: Transcript,
+) -> io::Result<()> {
     let mut room = [MARK; 256];
     let mut words = text::room();
     let claims = text::front(&mut room, text::size(c));
     let scratch = text::front(&mut words, text::size(s));
     let r = verified(given, sizes, t, claims, scratch, proof);
-    text::agreed(again::verify(given, sizes, t, proof, r, claims, scratch));
-    print_answer(r);
-    print_line(claims);
-    text::print_cleared(scratch);
+    let same = again::verify(stdout, given, sizes, t, proof, r, claims, scratch)?;
+    text::agreed(stdout, same)?;
+    print_answer(stdout, r)?;
+    print_line(stdout, claims)?;
+    text::print_cleared(stdout, scratch)
 }
 
 // verify STATE CTR C S PROOF: the verifier with C words lent for the claims and S as scratch.
-fn verify(given: &[u64], sizes: &[usize], nums: &[u64], t: Transcript) {
+fn verify(
+    stdout: &mut Out,
+    given: &[u64],
+    sizes: &[usize],
+    nums: &[u64],
+    t: Transcript,
+) -> io::Result<()> {
     let proof = text::list(nums, 4);
-    verify_in(given, sizes, at(nums, 2), at(nums, 3), proof, t);
+    verify_in(stdout, given, sizes, at(nums, 2), at(nums, 3), proof, t)
 }
 
 // The verifier with as many words of scratch as number i of the list says, where it has one.
-fn room_at(given: &[u64], sizes: &[usize], nums: &[u64], i: usize, t: Transcript) {
+fn room_at(
+    stdout: &mut Out,
+    given: &[u64],
+    sizes: &[usize],
+    nums: &[u64],
+    i: usize,
+    t: Transcript,
+) -> io::Result<()> {
     let lengths = text::after(nums, 3, 1);
     if i < lengths.len() {
         let proof = text::list(nums, 3);
-        verify_in(given, sizes, at(nums, 2), at(lengths, i), proof, t);
+        verify_in(stdout, given, sizes, at(nums, 2), at(lengths, i), proof, t)?;
     }
+    Ok(())
 }
 
 // rooms STATE CTR C PROOF LENGTHS: the verifier with each number of LENGTHS, which are eight at most, as the words of scratch.
-fn rooms(given: &[u64], sizes: &[usize], nums: &[u64], t: Transcript) {
-    room_at(given, sizes, nums, 0, t);
-    room_at(given, sizes, nums, 1, t);
-    room_at(given, sizes, nums, 2, t);
-    room_at(given, sizes, nums, 3, t);
-    room_at(given, sizes, nums, 4, t);
-    room_at(given, sizes, nums, 5, t);
-    room_at(given, sizes, nums, 6, t);
-    room_at(given, sizes, nums, 7, t);
+fn rooms(
+    stdout: &mut Out,
+    given: &[u64],
+    sizes: &[usize],
+    nums: &[u64],
+    t: Transcript,
+) -> io::Result<()> {
+    room_at(stdout, given, sizes, nums, 0, t)?;
+    room_at(stdout, given, sizes, nums, 1, t)?;
+    room_at(stdout, given, sizes, nums, 2, t)?;
+    room_at(stdout, given, sizes, nums, 3, t)?;
+    room_at(stdout, given, sizes, nums, 4, t)?;
+    room_at(stdout, given, sizes, nums, 5, t)?;
+    room_at(stdout, given, sizes, nums, 6, t)?;
+    room_at(stdout, given, sizes, nums, 7, t)
 }
 
 // Runs one end on a relation, or says that it is no such query.
 pub(crate) fn answered(
+    stdout: &mut Out,
     op: u64,
     state: [u8; 32],
     nums: &[u64],
     given: &[u64],
     sizes: &[usize],
-) -> bool {
+) -> io::Result<bool> {
     let t = Transcript {
         state: state,
         squeeze_ctr: at(nums, 1),
     };
     if op == PROVE {
-        prove(given, sizes, nums, t);
-        return true;
+        prove(stdout, given, sizes, nums, t)?;
+        return Ok(true);
     }
     if op == VERIFY {
-        verify(given, sizes, nums, t);
-        return true;
+        verify(stdout, given, sizes, nums, t)?;
+        return Ok(true);
     }
     if op == ROOMS {
-        rooms(given, sizes, nums, t);
-        return true;
+        rooms(stdout, given, sizes, nums, t)?;
+        return Ok(true);
     }
-    false
+    Ok(false)
 }

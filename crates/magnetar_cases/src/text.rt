@@ -4,7 +4,11 @@
 // as 0.
 ghost use Rattle.std.specs.Prelude.{◌≤◌, length};
 
-use libc::STDOUT_FILENO;
+use std::io;
+use std::io::{BufWriter, Stdout, Write};
+
+// Standard output, written to in large pieces: who is done with it flushes it.
+pub(crate) type Out = BufWriter<Stdout>;
 
 // What stands in a lent word before a call, so that a word that was not written to is seen.
 pub(crate) const MARK: u64 = 0x5a5a5a5a5a5a5a5a;
@@ -172,14 +176,6 @@ pub(crate) fn first_sizes(s: &[usize], n: usize) -> &[usize] {
     s
 }
 
-// The same of bytes.
-pub(crate) fn first_bytes(s: &[u8], n: usize) -> &[u8] {
-    if n < s.len() {
-        return &s[0..n];
-    }
-    s
-}
-
 // The same of numbers that are written to.
 pub(crate) fn front(s: &mut [u64], n: usize) -> &mut [u64] {
     if n < s.len() {
@@ -197,10 +193,8 @@ pub(crate) fn fill(s: &mut [u64], w: u64) {
     }
 }
 
-// Room for the input, which is shorter: two mebibytes.
-pub(crate) fn input() -> [u8; 2097152] {
-    [0; 2097152]
-}
+// How much is read, two mebibytes: the input is shorter.
+pub(crate) const MOST: usize = 2097152;
 
 // Room for the scratch of the largest run, that of 4,096 logins, each word marked.
 pub(crate) fn room() -> [u64; 90136] {
@@ -294,68 +288,69 @@ pub(crate) fn same_bytes(s: &[u8], t: &[u8]) -> bool {
     true
 }
 
-pub(crate) fn print(s: &[u8]) {
-    io::write_all(STDOUT_FILENO, s);
+pub(crate) fn print(stdout: &mut Out, s: &[u8]) -> io::Result<()> {
+    stdout.write_all(s)
 }
 
 // A line where there is more to read than room for it.
-pub(crate) fn too_long() {
-    print(b"input too long\n");
+pub(crate) fn too_long(stdout: &mut Out) -> io::Result<()> {
+    print(stdout, b"input too long\n")
 }
 
 // A line where a query cannot be asked of records.
-pub(crate) fn alone() {
-    print(b"alone\n");
+pub(crate) fn alone(stdout: &mut Out) -> io::Result<()> {
+    print(stdout, b"alone\n")
 }
 
 // A line where two ways of a call do not agree.
-pub(crate) fn agreed(yes: bool) {
+pub(crate) fn agreed(stdout: &mut Out, yes: bool) -> io::Result<()> {
     if !yes {
-        print(b"differ\n");
+        print(stdout, b"differ\n")?;
     }
+    Ok(())
 }
 
-pub(crate) fn print_count(n: usize) {
-    io::print_decimal(STDOUT_FILENO, n as u64);
+pub(crate) fn print_count(stdout: &mut Out, n: usize) -> io::Result<()> {
+    write!(stdout, "{n}")
 }
 
-pub(crate) fn print_number(n: u64) {
-    io::print_decimal(STDOUT_FILENO, n);
+pub(crate) fn print_number(stdout: &mut Out, n: u64) -> io::Result<()> {
+    write!(stdout, "{n}")
 }
 
 // How an answer begins: with the number of a refusal where there is one.
-pub(crate) fn print_sign(code: u32) {
+pub(crate) fn print_sign(stdout: &mut Out, code: u32) -> io::Result<()> {
     if code == 0 {
-        return print(b"= ");
+        return print(stdout, b"= ");
     }
-    print(b"! ");
-    print_number(wide(code));
-    print(b" ")
+    print(stdout, b"! ")?;
+    print_number(stdout, wide(code))?;
+    print(stdout, b" ")
 }
 
 // A space and a number in hexadecimal.
-pub(crate) fn print_word(w: u64) {
-    print(b" 0x");
-    io::print_hex(STDOUT_FILENO, w, 1);
+pub(crate) fn print_word(stdout: &mut Out, w: u64) -> io::Result<()> {
+    write!(stdout, " 0x{w:x}")
 }
 
 // How many words there are, and each of them.
-pub(crate) fn print_words(s: &[u64]) {
-    print_count(s.len());
+pub(crate) fn print_words(stdout: &mut Out, s: &[u64]) -> io::Result<()> {
+    print_count(stdout, s.len())?;
     let mut i = 0;
     while i < s.len() {
-        print_word(s[i]);
+        print_word(stdout, s[i])?;
         i += 1;
     }
+    Ok(())
 }
 
 // What a call answered, and the lent words after it.
-pub(crate) fn print_code(code: u32, s: &[u64]) {
-    print(b"= ");
-    print_number(wide(code));
-    print(b" ");
-    print_words(s);
-    print(b"\n");
+pub(crate) fn print_code(stdout: &mut Out, code: u32, s: &[u64]) -> io::Result<()> {
+    print(stdout, b"= ")?;
+    print_number(stdout, wide(code))?;
+    print(stdout, b" ")?;
+    print_words(stdout, s)?;
+    print(stdout, b"\n")
 }
 
 // How many words from index i on are w, before one that is not.
@@ -371,13 +366,13 @@ fn same_from(s: &[u64], i: usize, w: u64) -> usize {
 }
 
 // How many words there are, how many of them are zero at the front, and how many after these are still marked.
-pub(crate) fn print_cleared(s: &[u64]) {
+pub(crate) fn print_cleared(stdout: &mut Out, s: &[u64]) -> io::Result<()> {
     let zeros = same_from(s, 0, 0);
-    print(b"= ");
-    print_count(s.len());
-    print(b" ");
-    print_count(zeros);
-    print(b" ");
-    print_count(same_from(s, zeros, MARK));
-    print(b"\n");
+    print(stdout, b"= ")?;
+    print_count(stdout, s.len())?;
+    print(stdout, b" ")?;
+    print_count(stdout, zeros)?;
+    print(stdout, b" ")?;
+    print_count(stdout, same_from(s, zeros, MARK))?;
+    print(stdout, b"\n")
 }

@@ -1,8 +1,9 @@
 // Queries on the transcript, by value and in place.
 use crate::lent;
-use crate::text::{self, at, list, part, print};
+use crate::text::{self, Out, at, list, part, print};
 use magnetar_field::gf128::Gf128;
 use magnetar_hash::transcript::{self, DrawAnswer, Transcript, TranscriptAnswer};
+use std::io;
 
 // The queries by name: its last eight letters, the last one lowest.
 const ABSORB: u64 = 0x6162736f7262;
@@ -106,80 +107,100 @@ fn same_answer(a: DrawAnswer, b: DrawAnswer) -> bool {
     false
 }
 
-fn print_state(t: Transcript) {
+fn print_state(stdout: &mut Out, t: Transcript) -> io::Result<()> {
     let s = t.state;
-    text::print_bytes(&s);
-    print(b" ");
-    text::print_number(t.squeeze_ctr);
-    print(b"\n");
+    text::print_bytes(stdout, &s)?;
+    print(stdout, b" ")?;
+    text::print_number(stdout, t.squeeze_ctr)?;
+    print(stdout, b"\n")
 }
 
 // The number of a refusal, or the element where one is asked for, and the transcript.
-fn print_answer(op: u64, a: DrawAnswer) {
+fn print_answer(stdout: &mut Out, op: u64, a: DrawAnswer) -> io::Result<()> {
     let t = a.transcript;
     if a.code != 0 {
-        print(b"! ");
-        text::print_number(text::wide(a.code));
-        print(b" ");
-        print_state(t);
-        return;
+        print(stdout, b"! ")?;
+        text::print_number(stdout, text::wide(a.code))?;
+        print(stdout, b" ")?;
+        return print_state(stdout, t);
     }
     if op == DRAW {
         let e = a.element;
-        print(b"= 2");
-        text::print_word(e.lo);
-        text::print_word(e.hi);
-        print(b" ");
+        print(stdout, b"= 2")?;
+        text::print_word(stdout, e.lo)?;
+        text::print_word(stdout, e.hi)?;
+        print(stdout, b" ")?;
     } else {
-        print(b"= ");
+        print(stdout, b"= ")?;
     }
-    print_state(t);
+    print_state(stdout, t)
 }
 
-fn print_draws(a: DrawAnswer, out: &[u64]) {
-    print(b"= ");
-    text::print_words(out);
-    print(b" ");
-    text::print_number(text::wide(a.code));
-    print(b" ");
+fn print_draws(stdout: &mut Out, a: DrawAnswer, out: &[u64]) -> io::Result<()> {
+    print(stdout, b"= ")?;
+    text::print_words(stdout, out)?;
+    print(stdout, b" ")?;
+    text::print_number(stdout, text::wide(a.code))?;
+    print(stdout, b" ")?;
     let t = a.transcript;
-    print_state(t);
+    print_state(stdout, t)
 }
 
-fn write(op: u64, a: DrawAnswer, out: &[u64]) {
+fn write(stdout: &mut Out, op: u64, a: DrawAnswer, out: &[u64]) -> io::Result<()> {
     if op == DRAWVEC {
-        print_draws(a, out);
+        print_draws(stdout, a, out)
     } else {
-        print_answer(op, a);
+        print_answer(stdout, op, a)
     }
 }
 
 // The answer of both ways, or both answers where they differ.
-fn compare(op: u64, a: DrawAnswer, b: DrawAnswer, x: &[u64], y: &[u64]) {
+fn compare(
+    stdout: &mut Out,
+    op: u64,
+    a: DrawAnswer,
+    b: DrawAnswer,
+    x: &[u64],
+    y: &[u64],
+) -> io::Result<()> {
     if same_answer(a, b) {
         if text::same(x, y) {
-            write(op, a, x);
-            return;
+            return write(stdout, op, a, x);
         }
     }
-    print(b"differ\n");
-    write(op, a, x);
-    write(op, b, y);
+    print(stdout, b"differ\n")?;
+    write(stdout, op, a, x)?;
+    write(stdout, op, b, y)
 }
 
 // Draws in both ways, into words of their own.
-fn both_draw(op: u64, t: Transcript, label: &[u8], n: usize, x: &mut [u64], y: &mut [u64]) {
+fn both_draw(
+    stdout: &mut Out,
+    op: u64,
+    t: Transcript,
+    label: &[u8],
+    n: usize,
+    x: &mut [u64],
+    y: &mut [u64],
+) -> io::Result<()> {
     text::fill(x, text::MARK);
     text::fill(y, text::MARK);
     let a = core_draws(op, t, label, n, x);
     let b = form_draws(op, t, label, n, y);
-    compare(op, a, b, x, y);
+    compare(stdout, op, a, b, x, y)
 }
 
-fn both_absorb(op: u64, t: Transcript, label: &[u8], nums: &[u64], data: &[u8]) {
+fn both_absorb(
+    stdout: &mut Out,
+    op: u64,
+    t: Transcript,
+    label: &[u8],
+    nums: &[u64],
+    data: &[u8],
+) -> io::Result<()> {
     let a = core_absorbs(op, t, label, nums, data);
     let b = form_absorbs(op, t, label, nums, data);
-    compare(op, a, b, &nums[0..0], &nums[0..0]);
+    compare(stdout, op, a, b, &nums[0..0], &nums[0..0])
 }
 
 fn is_absorb(op: u64) -> bool {
@@ -197,13 +218,14 @@ fn is_absorb(op: u64) -> bool {
 
 // Answers a query on a transcript, or says that it is none.
 pub(crate) fn answers(
+    stdout: &mut Out,
     op: u64,
     nums: &[u64],
     bytes: &[u8],
     lens: &[usize],
     x: &mut [u64],
     y: &mut [u64],
-) -> bool {
+) -> io::Result<bool> {
     let state = text::digest(part(bytes, lens, 0));
     let t = Transcript {
         state,
@@ -211,18 +233,34 @@ pub(crate) fn answers(
     };
     let label = part(bytes, lens, 2);
     if is_absorb(op) {
-        both_absorb(op, t, label, nums, part(bytes, lens, 3));
-        return true;
+        both_absorb(stdout, op, t, label, nums, part(bytes, lens, 3))?;
+        return Ok(true);
     }
     if op == DRAW {
-        both_draw(op, t, label, 0, text::front(x, 0), text::front(y, 0));
-        return true;
+        both_draw(
+            stdout,
+            op,
+            t,
+            label,
+            0,
+            text::front(x, 0),
+            text::front(y, 0),
+        )?;
+        return Ok(true);
     }
     if op == DRAWVEC {
         let n = text::size(at(nums, 3));
         let k = text::size(at(nums, 4));
-        both_draw(op, t, label, n, text::front(x, k), text::front(y, k));
-        return true;
+        both_draw(
+            stdout,
+            op,
+            t,
+            label,
+            n,
+            text::front(x, k),
+            text::front(y, k),
+        )?;
+        return Ok(true);
     }
-    false
+    Ok(false)
 }

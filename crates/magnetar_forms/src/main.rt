@@ -9,7 +9,12 @@ mod lent;
 mod matrix;
 mod text;
 
+use crate::text::Out;
+use std::io;
+use std::io::{BufWriter, Read, Write};
+
 fn of_query(
+    stdout: &mut Out,
     op: u64,
     line: &[u8],
     nums: &[u64],
@@ -17,44 +22,43 @@ fn of_query(
     lens: &mut [usize],
     x: &mut [u64],
     y: &mut [u64],
-) {
-    if matrix::answers(op, nums, x, y) {
-        return;
+) -> io::Result<()> {
+    if matrix::answers(stdout, op, nums, x, y)? {
+        return Ok(());
     }
     let k = text::bytes(line, bytes, lens);
     if k > lens.len() {
-        text::too_long();
-        return;
+        return text::too_long(stdout);
     }
     if line.len() / 2 > bytes.len() {
-        text::too_long();
-        return;
+        return text::too_long(stdout);
     }
-    if hash::answers(op, nums, bytes, text::sizes(lens, 0, k), x, y) {
-        return;
+    if hash::answers(stdout, op, nums, bytes, text::sizes(lens, 0, k), x, y)? {
+        return Ok(());
     }
-    text::print(b"? unknown query\n");
+    text::print(stdout, b"? unknown query\n")
 }
 
 // The words of a line, as numbers and as bytes, are lent to every query, and so are words to write to, for each way its own.
 fn answer(
+    stdout: &mut Out,
     line: &[u8],
     nums: &mut [u64],
     bytes: &mut [u8],
     lens: &mut [usize],
     x: &mut [u64],
     y: &mut [u64],
-) {
+) -> io::Result<()> {
     if text::byte(line, 0) == b'#' {
-        text::print(line);
-        text::print(b"\n");
+        text::print(stdout, line)?;
+        text::print(stdout, b"\n")
     } else {
         let n = text::numbers(line, nums);
         if n > nums.len() {
-            text::too_long();
-            return;
+            return text::too_long(stdout);
         }
         of_query(
+            stdout,
             text::name(line),
             line,
             text::first(nums, n),
@@ -62,52 +66,64 @@ fn answer(
             lens,
             x,
             y,
-        );
+        )
     }
 }
 
 fn answer_all(
+    stdout: &mut Out,
     input: &[u8],
     nums: &mut [u64],
     bytes: &mut [u8],
     lens: &mut [usize],
     x: &mut [u64],
     y: &mut [u64],
-) {
+) -> io::Result<()> {
     let mut from = 0;
     while from < input.len() {
         let to = text::find(input, from, b'\n');
-        answer(&input[from..to], nums, bytes, lens, x, y);
+        answer(stdout, &input[from..to], nums, bytes, lens, x, y)?;
         if to == input.len() {
-            return;
+            return Ok(());
         }
         from = to + 1;
     }
+    Ok(())
 }
 
 // Answers all that is read.
 fn run(
-    input: &mut [u8],
+    stdout: &mut Out,
+    input: &[u8],
     nums: &mut [u64],
     bytes: &mut [u8],
     lens: &mut [usize],
     x: &mut [u64],
     y: &mut [u64],
-) {
-    let n = io::read_full(libc::STDIN_FILENO, input);
-    if n == input.len() {
-        text::too_long();
-        return;
+) -> io::Result<()> {
+    if input.len() == text::MOST {
+        return text::too_long(stdout);
     }
-    answer_all(text::first_bytes(input, n), nums, bytes, lens, x, y);
+    answer_all(stdout, input, nums, bytes, lens, x, y)
 }
 
-fn main() {
-    let mut input = text::mebibyte();
+fn main(rt: HostRuntime) -> io::Result<()> {
+    let mut stdout = BufWriter::new(rt.alloc(), rt.stdout())?;
+    let mut input = Vec::new(rt.alloc());
+    rt.reader().take(text::MOST as u64).read_to_end(&mut input)?;
     let mut nums = [0u64; 4096];
     let mut bytes = [0u8; 8192];
     let mut lens = [0usize; 256];
     let mut x = [0u64; 4096];
     let mut y = [0u64; 4096];
-    run(&mut input, &mut nums, &mut bytes, &mut lens, &mut x, &mut y);
+    run(
+        &mut stdout,
+        &input,
+        &mut nums,
+        &mut bytes,
+        &mut lens,
+        &mut x,
+        &mut y,
+    )?;
+    stdout.flush()
 }

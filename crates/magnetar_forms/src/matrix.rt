@@ -1,9 +1,10 @@
 // Queries on matrices, as four slices and as records.
 use crate::lent;
-use crate::text::{self, at, nth, print};
+use crate::text::{self, Out, at, nth, print};
 use magnetar_field::gf128::{Evaluated, Gf128};
 use magnetar_r1cs::r1cs::{self, Flag};
 use magnetar_records::records::Entry;
+use std::io;
 
 // The queries by name: its last eight letters, the last one lowest.
 const APPLY: u64 = 0x6170706c79;
@@ -199,45 +200,42 @@ fn form(
     form_products(op, nums, es, n, out)
 }
 
-fn print_flag(t: Told) {
+fn print_flag(stdout: &mut Out, t: Told) -> io::Result<()> {
     if t.code != 0 {
-        text::print_refusal(t.code);
+        text::print_refusal(stdout, t.code)
     } else {
-        text::print_bool(t.lo == 1);
+        text::print_bool(stdout, t.lo == 1)
     }
 }
 
-fn print_value(t: Told) {
+fn print_value(stdout: &mut Out, t: Told) -> io::Result<()> {
     if t.code != 0 {
-        text::print_refusal(t.code);
-        return;
+        return text::print_refusal(stdout, t.code);
     }
-    print(b"= 2");
-    text::print_word(t.lo);
-    text::print_word(t.hi);
-    print(b"\n");
+    print(stdout, b"= 2")?;
+    text::print_word(stdout, t.lo)?;
+    text::print_word(stdout, t.hi)?;
+    print(stdout, b"\n")
 }
 
 // The answer, and the lent words that come with it.
-fn write(op: u64, t: Told, out: &[u64], scratch: &[u64]) {
+fn write(stdout: &mut Out, op: u64, t: Told, out: &[u64], scratch: &[u64]) -> io::Result<()> {
     if op == ISBINARY {
-        print_flag(t);
-        return;
+        return print_flag(stdout, t);
     }
     if op == PACKED {
-        print_flag(t);
-        text::print_line(out);
-        return;
+        print_flag(stdout, t)?;
+        return text::print_line(stdout, out);
     }
     if op == AT {
-        print_value(t);
-        text::print_line(scratch);
-        return;
+        print_value(stdout, t)?;
+        return text::print_line(stdout, scratch);
     }
-    text::print_code(t.code, out);
+    text::print_code(stdout, t.code, out)?;
     if op == TABLE {
-        text::print_line(scratch);
+        text::print_line(stdout, scratch)?;
     }
+    Ok(())
 }
 
 fn same_told(a: Told, b: Told) -> bool {
@@ -260,17 +258,27 @@ fn agree(a: Told, b: Told, out: &[u64], scratch: &[u64], out2: &[u64], scratch2:
 }
 
 // The answer of both ways, or both answers where they differ.
-fn judge(op: u64, a: Told, b: Told, out: &[u64], scratch: &[u64], out2: &[u64], scratch2: &[u64]) {
+fn judge(
+    stdout: &mut Out,
+    op: u64,
+    a: Told,
+    b: Told,
+    out: &[u64],
+    scratch: &[u64],
+    out2: &[u64],
+    scratch2: &[u64],
+) -> io::Result<()> {
     if agree(a, b, out, scratch, out2, scratch2) {
-        write(op, a, out, scratch);
+        write(stdout, op, a, out, scratch)
     } else {
-        print(b"differ\n");
-        write(op, a, out, scratch);
-        write(op, b, out2, scratch2);
+        print(stdout, b"differ\n")?;
+        write(stdout, op, a, out, scratch)?;
+        write(stdout, op, b, out2, scratch2)
     }
 }
 
 fn compare(
+    stdout: &mut Out,
     op: u64,
     nums: &[u64],
     row: &[usize],
@@ -280,10 +288,10 @@ fn compare(
     scratch: &mut [u64],
     out2: &mut [u64],
     scratch2: &mut [u64],
-) {
+) -> io::Result<()> {
     let a = core(op, nums, row, col, out, scratch);
     let b = form(op, nums, es, row.len(), out2, scratch2);
-    judge(op, a, b, out, scratch, out2, scratch2);
+    judge(stdout, op, a, b, out, scratch, out2, scratch2)
 }
 
 // The record at index i.
@@ -309,13 +317,22 @@ fn records(row: &[usize], col: &[usize], lo: &[u64], hi: &[u64]) -> [Entry; 32] 
 }
 
 // With as many words lent as the query says.
-fn with_room(op: u64, nums: &[u64], row: &[usize], col: &[usize], x: &mut [u64], y: &mut [u64]) {
+fn with_room(
+    stdout: &mut Out,
+    op: u64,
+    nums: &[u64],
+    row: &[usize],
+    col: &[usize],
+    x: &mut [u64],
+    y: &mut [u64],
+) -> io::Result<()> {
     let mut scratch = [0u64; 1024];
     let mut scratch2 = [0u64; 1024];
     let n = text::size(at(nums, 0));
     let k = text::size(at(nums, 1));
     let es = records(row, col, nth(nums, 4, 2), nth(nums, 4, 3));
     compare(
+        stdout,
         op,
         nums,
         row,
@@ -325,25 +342,32 @@ fn with_room(op: u64, nums: &[u64], row: &[usize], col: &[usize], x: &mut [u64],
         text::front(&mut scratch, k),
         text::front(y, n),
         text::front(&mut scratch2, k),
-    );
+    )
 }
 
 // Answers a query on a matrix of at most 32 entries, or says that it is none.
-pub(crate) fn answers(op: u64, nums: &[u64], x: &mut [u64], y: &mut [u64]) -> bool {
+pub(crate) fn answers(
+    stdout: &mut Out,
+    op: u64,
+    nums: &[u64],
+    x: &mut [u64],
+    y: &mut [u64],
+) -> io::Result<bool> {
     let mut row = [0usize; 32];
     let mut col = [0usize; 32];
     if is_query(op) {
         let n = text::as_sizes(nth(nums, 4, 0), &mut row);
         let k = text::as_sizes(nth(nums, 4, 1), &mut col);
         with_room(
+            stdout,
             op,
             nums,
             text::sizes(&row, 0, n),
             text::sizes(&col, 0, k),
             x,
             y,
-        );
-        return true;
+        )?;
+        return Ok(true);
     }
-    false
+    Ok(false)
 }

@@ -2,40 +2,42 @@
 ghost use Rattle.std.specs.Prelude.{◌<◌};
 
 use crate::filled::MARK;
-use crate::text::print;
+use crate::text::{Out, print};
 use crate::{filled, text};
 use magnetar_check::check;
 use magnetar_check::check::RowCheck;
 use magnetar_hash::transcript::TranscriptAnswer;
 use magnetar_spartan::virtual_spartan;
+use std::io;
 
-fn say_place(u: usize, i: usize) {
-    text::count(u);
-    print(b" ");
-    text::count(i);
+fn say_place(stdout: &mut Out, u: usize, i: usize) -> io::Result<()> {
+    text::count(stdout, u)?;
+    print(stdout, b" ")?;
+    text::count(stdout, i)
 }
 
-fn say_verdict(r: RowCheck) {
+fn say_verdict(stdout: &mut Out, r: RowCheck) -> io::Result<()> {
     match r {
-        RowCheck::Good => print(b"good"),
+        RowCheck::Good => print(stdout, b"good"),
         RowCheck::Stray(u, y) => {
-            print(b"stray ");
-            say_place(u, y);
+            print(stdout, b"stray ")?;
+            say_place(stdout, u, y)
         }
         RowCheck::Bin(u, i) => {
-            print(b"bin ");
-            say_place(u, i);
+            print(stdout, b"bin ")?;
+            say_place(stdout, u, i)
         }
         RowCheck::Fld(u, i) => {
-            print(b"fld ");
-            say_place(u, i);
+            print(stdout, b"fld ")?;
+            say_place(stdout, u, i)
         }
-        RowCheck::Refused(n) => text::code(n),
+        RowCheck::Refused(n) => text::code(stdout, n),
     }
 }
 
 // The row check with these segments, after what it is called.
 fn check(
+    stdout: &mut Out,
     name: &[u8],
     m: usize,
     q: usize,
@@ -43,7 +45,7 @@ fn check(
     packed: &[u64],
     x: &[u64],
     scratch: &mut [u64],
-) {
+) -> io::Result<()> {
     let row = filled::rows();
     let col = filled::cols();
     let lo = filled::lows();
@@ -62,15 +64,23 @@ fn check(
         packed,
         x,
     );
-    print(name);
-    say_verdict(r);
-    text::words(b"scratch", scratch);
-    print(b"\n");
+    print(stdout, name)?;
+    say_verdict(stdout, r)?;
+    text::words(stdout, b"scratch", scratch)?;
+    print(stdout, b"\n")
 }
 
 // The row check; then with segments that leave out the last column.
-pub(crate) fn checks(m: usize, q: usize, packed: &[u64], x: &[u64], scratch: &mut [u64]) {
+pub(crate) fn checks(
+    stdout: &mut Out,
+    m: usize,
+    q: usize,
+    packed: &[u64],
+    x: &[u64],
+    scratch: &mut [u64],
+) -> io::Result<()> {
     check(
+        stdout,
         b"  row check       ",
         m,
         q,
@@ -78,8 +88,9 @@ pub(crate) fn checks(m: usize, q: usize, packed: &[u64], x: &[u64], scratch: &mu
         packed,
         x,
         scratch,
-    );
+    )?;
     check(
+        stdout,
         b"  last column out ",
         m,
         q,
@@ -87,14 +98,14 @@ pub(crate) fn checks(m: usize, q: usize, packed: &[u64], x: &[u64], scratch: &mu
         packed,
         x,
         scratch,
-    );
+    )
 }
 
 // What a run answers, and the transcript after it.
-fn say_run(r: TranscriptAnswer) {
-    text::code(r.code);
-    print(b", transcript ");
-    text::drawn(r.transcript);
+fn say_run(stdout: &mut Out, r: TranscriptAnswer) -> io::Result<()> {
+    text::code(stdout, r.code)?;
+    print(stdout, b", transcript ")?;
+    text::drawn(stdout, r.transcript)
 }
 
 fn proved(
@@ -128,16 +139,24 @@ fn proved(
     )
 }
 
-fn prove(m: usize, q: usize, packed: &[u64], x: &[u64], proof: &mut [u64], scratch: &mut [u64]) {
+fn prove(
+    stdout: &mut Out,
+    m: usize,
+    q: usize,
+    packed: &[u64],
+    x: &[u64],
+    proof: &mut [u64],
+    scratch: &mut [u64],
+) -> io::Result<()> {
     let mut claims = [MARK; 40];
     filled::fill(scratch, MARK, 0);
     let r = proved(m, q, packed, x, proof, &mut claims, scratch);
-    print(b"  prove           ");
-    say_run(r);
-    text::words(b"proof", proof);
-    text::words(b"claims", &claims);
-    text::words(b"scratch", scratch);
-    print(b"\n");
+    print(stdout, b"  prove           ")?;
+    say_run(stdout, r)?;
+    text::words(stdout, b"proof", proof)?;
+    text::words(stdout, b"claims", &claims)?;
+    text::words(stdout, b"scratch", scratch)?;
+    print(stdout, b"\n")
 }
 
 fn verified(
@@ -169,15 +188,22 @@ fn verified(
     )
 }
 
-fn verify(m: usize, q: usize, x: &[u64], proof: &[u64], scratch: &mut [u64]) {
+fn verify(
+    stdout: &mut Out,
+    m: usize,
+    q: usize,
+    x: &[u64],
+    proof: &[u64],
+    scratch: &mut [u64],
+) -> io::Result<()> {
     let mut claims = [MARK; 40];
     filled::fill(scratch, MARK, 0);
     let r = verified(&mut claims, scratch, m, q, x, proof);
-    print(b"  verify          ");
-    say_run(r);
-    text::words(b"claims", &claims);
-    text::words(b"scratch", scratch);
-    print(b"\n");
+    print(stdout, b"  verify          ")?;
+    say_run(stdout, r)?;
+    text::words(stdout, b"claims", &claims)?;
+    text::words(stdout, b"scratch", scratch)?;
+    print(stdout, b"\n")
 }
 
 // As many words as a proof of one login or of two has.
@@ -188,21 +214,37 @@ fn length(q: usize) -> usize
 }
 
 // Both ends; then the verifier again, with a bit of the last segment's value turned.
-fn both(m: usize, q: usize, packed: &[u64], x: &[u64], proof: &mut [u64], scratch: &mut [u64]) {
-    prove(m, q, packed, x, proof, scratch);
-    verify(m, q, x, proof, scratch);
+fn both(
+    stdout: &mut Out,
+    m: usize,
+    q: usize,
+    packed: &[u64],
+    x: &[u64],
+    proof: &mut [u64],
+    scratch: &mut [u64],
+) -> io::Result<()> {
+    prove(stdout, m, q, packed, x, proof, scratch)?;
+    verify(stdout, m, q, x, proof, scratch)?;
     filled::flip(proof, length(q) - 1);
-    verify(m, q, x, proof, scratch);
+    verify(stdout, m, q, x, proof, scratch)
 }
 
-pub(crate) fn ends(m: usize, q: usize, packed: &[u64], x: &[u64], scratch: &mut [u64]) {
+pub(crate) fn ends(
+    stdout: &mut Out,
+    m: usize,
+    q: usize,
+    packed: &[u64],
+    x: &[u64],
+    scratch: &mut [u64],
+) -> io::Result<()> {
     let mut room = [MARK; 156];
     both(
+        stdout,
         m,
         q,
         packed,
         x,
         filled::front(&mut room, length(q)),
         scratch,
-    );
+    )
 }

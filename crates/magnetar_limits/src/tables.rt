@@ -2,22 +2,32 @@
 ghost use Rattle.std.specs.Prelude.{◌≤◌};
 
 use crate::filled::{MARK, STEP};
-use crate::text::print;
+use crate::text::{Out, print};
 use crate::{filled, text};
 use magnetar_batch::{combo, fold};
 use magnetar_r1cs::r1cs;
 use magnetar_r1cs::r1cs::Flag;
+use std::io;
 
-fn say(f: Flag) {
+fn say(stdout: &mut Out, f: Flag) -> io::Result<()> {
     match f {
-        Flag::Yes => print(b"yes"),
-        Flag::No => print(b"no"),
-        Flag::Refused(n) => text::code(n),
+        Flag::Yes => print(stdout, b"yes"),
+        Flag::No => print(stdout, b"no"),
+        Flag::Refused(n) => text::code(stdout, n),
     }
 }
 
 // The product of the matrix of n rows whose entries are those from a to b with each login.
-fn product(m: usize, q: usize, n: usize, a: usize, b: usize, packed: &[u64], x: &[u64])
+fn product(
+    stdout: &mut Out,
+    m: usize,
+    q: usize,
+    n: usize,
+    a: usize,
+    b: usize,
+    packed: &[u64],
+    x: &[u64],
+) -> io::Result<()>
     requires { (a ≤ b) × (b ≤ 3078) }
 {
     let row = filled::rows();
@@ -38,20 +48,26 @@ fn product(m: usize, q: usize, n: usize, a: usize, b: usize, packed: &[u64], x: 
         m / 2,
         &mut out,
     );
-    print(b"  packed product  ");
-    say(f);
-    text::words(b"products", &out);
-    print(b"\n");
+    print(stdout, b"  packed product  ")?;
+    say(stdout, f)?;
+    text::words(stdout, b"products", &out)?;
+    print(stdout, b"\n")
 }
 
 // The products of all six matrices.
-pub(crate) fn products(m: usize, q: usize, packed: &[u64], x: &[u64]) {
-    product(m, q, 2, 0, 514, packed, x);
-    product(m, q, 2, 514, 1027, packed, x);
-    product(m, q, 2, 1027, 1539, packed, x);
-    product(m, q, 4, 1539, 2053, packed, x);
-    product(m, q, 4, 2053, 2566, packed, x);
-    product(m, q, 4, 2566, 3078, packed, x);
+pub(crate) fn products(
+    stdout: &mut Out,
+    m: usize,
+    q: usize,
+    packed: &[u64],
+    x: &[u64],
+) -> io::Result<()> {
+    product(stdout, m, q, 2, 0, 514, packed, x)?;
+    product(stdout, m, q, 2, 514, 1027, packed, x)?;
+    product(stdout, m, q, 2, 1027, 1539, packed, x)?;
+    product(stdout, m, q, 4, 1539, 2053, packed, x)?;
+    product(stdout, m, q, 4, 2053, 2566, packed, x)?;
+    product(stdout, m, q, 4, 2566, 3078, packed, x)
 }
 
 // The point that q logins are folded at: of one element for two, of none for one.
@@ -62,17 +78,23 @@ fn point(words: &[u64], q: usize) -> &[u64] {
     words
 }
 
-pub(crate) fn fold(m: usize, q: usize, packed: &[u64], out: &mut [u64]) {
+pub(crate) fn fold(
+    stdout: &mut Out,
+    m: usize,
+    q: usize,
+    packed: &[u64],
+    out: &mut [u64],
+) -> io::Result<()> {
     let mut scratch = [MARK; 6];
     let mut at = [0u64; 2];
     filled::fill(&mut at, 7, STEP);
     filled::fill(out, MARK, 0);
     let n = fold::fold_packed_w(packed, q, m / 2, point(&at, q), out, &mut scratch);
-    print(b"  fold            ");
-    text::code(n);
-    text::words(b"folded", out);
-    text::words(b"scratch", &scratch);
-    print(b"\n");
+    print(stdout, b"  fold            ")?;
+    text::code(stdout, n)?;
+    text::words(stdout, b"folded", out)?;
+    text::words(stdout, b"scratch", &scratch)?;
+    print(stdout, b"\n")
 }
 
 fn combine(
@@ -102,13 +124,18 @@ fn table(m: usize, out: &mut [u64], scratch: &mut [u64]) -> u32 {
     combine(m, out, scratch, &alphas, &pb, &pf)
 }
 
-pub(crate) fn combined(m: usize, out: &mut [u64], scratch: &mut [u64]) {
+pub(crate) fn combined(
+    stdout: &mut Out,
+    m: usize,
+    out: &mut [u64],
+    scratch: &mut [u64],
+) -> io::Result<()> {
     filled::fill(out, MARK, 0);
     filled::fill(scratch, MARK, 0);
     let n = table(m, out, scratch);
-    print(b"  combined table  ");
-    text::code(n);
-    text::words(b"table", out);
-    text::words(b"scratch", scratch);
-    print(b"\n");
+    print(stdout, b"  combined table  ")?;
+    text::code(stdout, n)?;
+    text::words(stdout, b"table", out)?;
+    text::words(stdout, b"scratch", scratch)?;
+    print(stdout, b"\n")
 }

@@ -1,9 +1,12 @@
 // Queries on the field. Elements are two words, the low one first; a list is its number of words and the words.
-use crate::text::{self, at, list, plus, print, print_bool, print_code, print_line, print_refusal};
+use crate::text::{
+    self, Out, at, list, plus, print, print_bool, print_code, print_line, print_refusal,
+};
 use magnetar_field::gf128::{self, Evaluated, Gf128, ONE};
 use magnetar_field::{sizes, words};
 use magnetar_multilinear::eq::{self, EqBits};
 use magnetar_multilinear::multilinear;
+use std::io;
 
 // The queries by name: its letters, the last one lowest.
 const ADD: u64 = 0x616464;
@@ -54,64 +57,63 @@ const EQROOM: u64 = 0x6571726f6f6d;
 
 const MLEROOM: u64 = 0x6d6c65726f6f6d;
 
-pub(crate) fn print_element(e: Gf128) {
+pub(crate) fn print_element(stdout: &mut Out, e: Gf128) -> io::Result<()> {
     let mut w = [0u64; 2];
     w[0] = e.lo;
     w[1] = e.hi;
-    print_line(&w);
+    print_line(stdout, &w)
 }
 
-pub(crate) fn print_evaluated(v: Evaluated) {
+pub(crate) fn print_evaluated(stdout: &mut Out, v: Evaluated) -> io::Result<()> {
     match v {
-        Evaluated::Value(e) => print_element(e),
-        Evaluated::Refused(code) => print_refusal(code),
+        Evaluated::Value(e) => print_element(stdout, e),
+        Evaluated::Refused(code) => print_refusal(stdout, code),
     }
 }
 
 // eq P C, fused P: the table.
-fn print_table(code: u32, p: &[u64], out: &[u64]) {
+fn print_table(stdout: &mut Out, code: u32, p: &[u64], out: &[u64]) -> io::Result<()> {
     if code == 0 {
-        print_line(text::first(out, text::table_words(p.len() / 2)));
+        print_line(stdout, text::first(out, text::table_words(p.len() / 2)))
     } else {
-        print_refusal(code);
+        print_refusal(stdout, code)
     }
 }
 
 // eqroom K P C: the outcome where K words are lent for the table.
-fn eqroom(k: usize, p: &[u64], c: Gf128, out: &mut [u64]) {
+fn eqroom(stdout: &mut Out, k: usize, p: &[u64], c: Gf128, out: &mut [u64]) -> io::Result<()> {
     let room = text::front(out, k);
     text::fill(room, text::MARK);
     let code = EqBits::build(p, c, room);
-    print_code(code, room);
+    print_code(stdout, code, room)
 }
 
 // mleroom K V P: the value where K words are lent as scratch, and these words after the call.
-fn mleroom(k: usize, v: &[u64], p: &[u64], out: &mut [u64]) {
+fn mleroom(stdout: &mut Out, k: usize, v: &[u64], p: &[u64], out: &mut [u64]) -> io::Result<()> {
     let room = text::front(out, k);
     text::fill(room, text::MARK);
-    print_evaluated(multilinear::eval_mle(v, p, room));
-    print_line(room);
+    print_evaluated(stdout, multilinear::eval_mle(v, p, room))?;
+    print_line(stdout, room)
 }
 
 // bind VAR T R: the bound table.
-fn bind(code: u32, table: &[u64]) {
+fn bind(stdout: &mut Out, code: u32, table: &[u64]) -> io::Result<()> {
     if code == 0 {
-        print_line(text::first(table, table.len() / 2));
+        print_line(stdout, text::first(table, table.len() / 2))
     } else {
-        print_refusal(code);
+        print_refusal(stdout, code)
     }
 }
 
 // eqat P BITS: the value of eq at the point and the bits.
-fn eqat(p: &[u64], bits: &[u64]) {
+fn eqat(stdout: &mut Out, p: &[u64], bits: &[u64]) -> io::Result<()> {
     let mut b = [false; 64];
     let n = bits.len();
     if n > 64 {
-        print(b"? bits\n");
-        return;
+        return print(stdout, b"? bits\n");
     }
     text::bools(bits, &mut b);
-    print_evaluated(eq::eq_table(p, &b[0..n]));
+    print_evaluated(stdout, eq::eq_table(p, &b[0..n]))
 }
 
 // chain 4 A B N: N times the product of A and B in the place of A, and the sum of B and the number of the turn in that
@@ -163,75 +165,75 @@ fn of_one(op: u64, a: Gf128, m: u64, n: u64) -> Evaluated {
 }
 
 // Writes an element, or says that there is none.
-fn printed(v: Evaluated) -> bool {
+fn printed(stdout: &mut Out, v: Evaluated) -> io::Result<bool> {
     match v {
         Evaluated::Value(e) => {
-            print_element(e);
-            true
+            print_element(stdout, e)?;
+            Ok(true)
         }
-        Evaluated::Refused(_) => false,
+        Evaluated::Refused(_) => Ok(false),
     }
 }
 
 // Answers a query on elements, or says that it is none.
-fn elements(op: u64, nums: &[u64]) -> bool {
+fn elements(stdout: &mut Out, op: u64, nums: &[u64]) -> io::Result<bool> {
     let v = list(nums, 0);
     let a = words::get(v, 0);
     let i = plus(1, v.len());
     let m = at(nums, i);
-    if printed(of_two(op, a, words::get(v, 1), m)) {
-        return true;
+    if printed(stdout, of_two(op, a, words::get(v, 1), m))? {
+        return Ok(true);
     }
-    if printed(of_one(op, a, m, at(nums, plus(i, 1)))) {
-        return true;
+    if printed(stdout, of_one(op, a, m, at(nums, plus(i, 1))))? {
+        return Ok(true);
     }
     if op == ISBIT {
-        print_bool(gf128::is_bit(a));
-        return true;
+        print_bool(stdout, gf128::is_bit(a))?;
+        return Ok(true);
     }
-    false
+    Ok(false)
 }
 
 // Answers a query on tables, or says that it is none.
-fn tables(op: u64, nums: &[u64], out: &mut [u64]) -> bool {
+fn tables(stdout: &mut Out, op: u64, nums: &[u64], out: &mut [u64]) -> io::Result<bool> {
     let v = list(nums, 0);
     let p = list(nums, plus(1, v.len()));
     if op == EQ {
         let code = EqBits::build(v, words::get(p, 0), out);
-        print_table(code, v, out);
-        return true;
+        print_table(stdout, code, v, out)?;
+        return Ok(true);
     }
     if op == FUSED {
         let code = EqBits::build(v, ONE, out);
-        print_table(code, v, out);
-        return true;
+        print_table(stdout, code, v, out)?;
+        return Ok(true);
     }
     if op == EQAT {
-        eqat(v, p);
-        return true;
+        eqat(stdout, v, p)?;
+        return Ok(true);
     }
     if op == EVALMLE {
-        print_evaluated(multilinear::eval_mle(v, p, out));
-        return true;
+        print_evaluated(stdout, multilinear::eval_mle(v, p, out))?;
+        return Ok(true);
     }
-    false
+    Ok(false)
 }
 
 // Answers a query that binds a variable, or says that it is none.
-fn bound(op: u64, n: usize, r: Gf128, table: &mut [u64]) -> bool {
+fn bound(stdout: &mut Out, op: u64, n: usize, r: Gf128, table: &mut [u64]) -> io::Result<bool> {
     if op == BIND {
-        bind(multilinear::bind_var(table, n, r), table);
-        return true;
+        bind(stdout, multilinear::bind_var(table, n, r), table)?;
+        return Ok(true);
     }
     if op == FOLD {
-        bind(multilinear::bind_var(table, n, r), table);
-        return true;
+        bind(stdout, multilinear::bind_var(table, n, r), table)?;
+        return Ok(true);
     }
     if op == BINDROOM {
-        print_code(multilinear::bind_var(table, n, r), table);
-        return true;
+        print_code(stdout, multilinear::bind_var(table, n, r), table)?;
+        return Ok(true);
     }
-    false
+    Ok(false)
 }
 
 // Changes words as a query asks, or says that it is none.
@@ -252,64 +254,69 @@ fn changed(op: u64, n: usize, p: &[u64], table: &mut [u64]) -> bool {
 }
 
 // Answers a query on words, or says that it is none. The list p is an element where one is wanted.
-fn written(op: u64, n: usize, p: &[u64], table: &mut [u64]) -> bool {
-    if bound(op, n, words::get(p, 0), table) {
-        return true;
+fn written(stdout: &mut Out, op: u64, n: usize, p: &[u64], table: &mut [u64]) -> io::Result<bool> {
+    if bound(stdout, op, n, words::get(p, 0), table)? {
+        return Ok(true);
     }
     if op == GET {
-        print_element(words::get(table, n));
-        return true;
+        print_element(stdout, words::get(table, n))?;
+        return Ok(true);
     }
     if changed(op, n, p, table) {
-        print_line(table);
-        return true;
+        print_line(stdout, table)?;
+        return Ok(true);
     }
-    false
+    Ok(false)
 }
 
 // Answers a query that begins with a number, or says that it is none.
-fn numbered(op: u64, nums: &[u64], out: &mut [u64]) -> bool {
+fn numbered(stdout: &mut Out, op: u64, nums: &[u64], out: &mut [u64]) -> io::Result<bool> {
     let n = text::size(at(nums, 0));
     let v = list(nums, 1);
     let p = list(nums, plus(2, v.len()));
     if op == EQROOM {
-        eqroom(n, v, words::get(p, 0), out);
-        return true;
+        eqroom(stdout, n, v, words::get(p, 0), out)?;
+        return Ok(true);
     }
     if op == MLEROOM {
-        mleroom(n, v, p, out);
-        return true;
+        mleroom(stdout, n, v, p, out)?;
+        return Ok(true);
     }
     let table = text::front(out, v.len());
     words::copy(v, table);
-    written(op, n, p, table)
+    written(stdout, op, n, p, table)
 }
 
 // Answers a query on a size, or says that it is none.
-fn sized(op: u64, n: usize) -> bool {
+fn sized(stdout: &mut Out, op: u64, n: usize) -> io::Result<bool> {
     if op == LOG2 {
-        print(b"= ");
-        text::print_count(sizes::log2(n));
-        print(b"\n");
-        return true;
+        print(stdout, b"= ")?;
+        text::print_count(stdout, sizes::log2(n))?;
+        print(stdout, b"\n")?;
+        return Ok(true);
     }
     if op == ISPOWER {
-        print_bool(sizes::is_power_of_two(n));
-        return true;
+        print_bool(stdout, sizes::is_power_of_two(n))?;
+        return Ok(true);
     }
-    false
+    Ok(false)
 }
 
 // Answers a query on the field, or says that it is none.
-pub(crate) fn answered(op: u64, nums: &[u64], out: &mut [u64]) -> bool {
-    if sized(op, text::size(at(nums, 0))) {
-        return true;
+pub(crate) fn answered(
+    stdout: &mut Out,
+    op: u64,
+    nums: &[u64],
+    out: &mut [u64],
+) -> io::Result<bool> {
+    if sized(stdout, op, text::size(at(nums, 0)))? {
+        return Ok(true);
     }
-    if elements(op, nums) {
-        return true;
+    if elements(stdout, op, nums)? {
+        return Ok(true);
     }
-    if tables(op, nums, out) {
-        return true;
+    if tables(stdout, op, nums, out)? {
+        return Ok(true);
     }
-    numbered(op, nums, out)
+    numbered(stdout, op, nums, out)
 }

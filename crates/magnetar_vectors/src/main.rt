@@ -9,74 +9,79 @@ mod sumcheck;
 mod text;
 
 // Answers a query that has no byte strings, with words to write to, or says that it is none.
-fn of_words(op: u64, nums: &[u64], out: &mut [u64]) -> bool {
-    if field::answered(op, nums, out) {
-        return true;
+use crate::text::Out;
+use std::io;
+use std::io::{BufWriter, Read, Write};
+
+fn of_words(stdout: &mut Out, op: u64, nums: &[u64], out: &mut [u64]) -> io::Result<bool> {
+    if field::answered(stdout, op, nums, out)? {
+        return Ok(true);
     }
-    if sumcheck::answered(op, nums, out) {
-        return true;
+    if sumcheck::answered(stdout, op, nums, out)? {
+        return Ok(true);
     }
-    matrix::answered(op, nums, out)
+    matrix::answered(stdout, op, nums, out)
 }
 
-fn of_numbers(op: u64, nums: &[u64]) -> bool {
+fn of_numbers(stdout: &mut Out, op: u64, nums: &[u64]) -> io::Result<bool> {
     let mut out = [0u64; 4096];
-    of_words(op, nums, &mut out)
+    of_words(stdout, op, nums, &mut out)
 }
 
 // Answers a query by the numbers of its line, or says that it is none.
-fn asked(op: u64, line: &[u8], nums: &[u64]) -> bool {
-    if of_numbers(op, nums) {
-        return true;
+fn asked(stdout: &mut Out, op: u64, line: &[u8], nums: &[u64]) -> io::Result<bool> {
+    if of_numbers(stdout, op, nums)? {
+        return Ok(true);
     }
-    hash::answered(op, nums, line)
+    hash::answered(stdout, op, nums, line)
 }
 
-fn answered(line: &[u8]) -> bool {
+fn answered(stdout: &mut Out, line: &[u8]) -> io::Result<bool> {
     let mut nums = [0u64; 4096];
     let n = text::numbers(line, &mut nums);
     if n > 4096 {
-        text::too_long();
-        return true;
+        text::too_long(stdout)?;
+        return Ok(true);
     }
-    asked(text::name(line), line, text::first(&nums, n))
+    asked(stdout, text::name(line), line, text::first(&nums, n))
 }
 
-fn answer(line: &[u8]) {
+fn answer(stdout: &mut Out, line: &[u8]) -> io::Result<()> {
     if text::byte(line, 0) == b'#' {
-        text::print(line);
-        text::print(b"\n");
-        return;
+        text::print(stdout, line)?;
+        return text::print(stdout, b"\n");
     }
-    if answered(line) {
-        return;
+    if answered(stdout, line)? {
+        return Ok(());
     }
-    text::print(b"? unknown query\n");
+    text::print(stdout, b"? unknown query\n")
 }
 
-fn answer_all(input: &[u8]) {
+fn answer_all(stdout: &mut Out, input: &[u8]) -> io::Result<()> {
     let mut from = 0;
     while from < input.len() {
         let to = text::find(input, from, b'\n');
-        answer(&input[from..to]);
+        answer(stdout, &input[from..to])?;
         if to == input.len() {
-            return;
+            return Ok(());
         }
         from = to + 1;
     }
+    Ok(())
 }
 
 // Answers all that is read.
-fn run(input: &mut [u8]) {
-    let n = io::read_full(libc::STDIN_FILENO, input);
-    if n == input.len() {
-        text::too_long();
-        return;
+fn run(stdout: &mut Out, input: &[u8]) -> io::Result<()> {
+    if input.len() == text::MOST {
+        return text::too_long(stdout);
     }
-    answer_all(text::first_bytes(input, n));
+    answer_all(stdout, input)
 }
 
-fn main() {
-    let mut input = text::mebibyte();
-    run(&mut input);
+fn main(rt: HostRuntime) -> io::Result<()> {
+    let mut stdout = BufWriter::new(rt.alloc(), rt.stdout())?;
+    let mut input = Vec::new(rt.alloc());
+    rt.reader().take(text::MOST as u64).read_to_end(&mut input)?;
+    run(&mut stdout, &input)?;
+    stdout.flush()
 }

@@ -4,7 +4,11 @@
 // as 0.
 ghost use Rattle.std.specs.Prelude.{◌≤◌, length};
 
-use libc::STDOUT_FILENO;
+use std::io;
+use std::io::{BufWriter, Stdout, Write};
+
+// Standard output, written to in large pieces: who is done with it flushes it.
+pub(crate) type Out = BufWriter<Stdout>;
 
 // What stands in a lent word before a call, so that a word that was not written to is seen.
 pub(crate) const MARK: u64 = 0x5a5a5a5a5a5a5a5a;
@@ -256,14 +260,6 @@ pub(crate) fn first(s: &[u64], n: usize) -> &[u64] {
     s
 }
 
-// The same of bytes.
-pub(crate) fn first_bytes(s: &[u8], n: usize) -> &[u8] {
-    if n < s.len() {
-        return &s[0..n];
-    }
-    s
-}
-
 // The same of words that are written to.
 pub(crate) fn front(s: &mut [u64], n: usize) -> &mut [u64] {
     if n < s.len() {
@@ -329,7 +325,10 @@ pub(crate) fn table_words(n: usize) -> usize {
     if n < 20 { 2 << n } else { 0 }
 }
 
-// Room for a mebibyte; the input is shorter.
+// How much is read, a mebibyte: the input is shorter.
+pub(crate) const MOST: usize = 1048576;
+
+// Room for as many bytes.
 pub(crate) fn mebibyte() -> [u8; 1048576] {
     [0; 1048576]
 }
@@ -369,104 +368,105 @@ pub(crate) fn nth(nums: &[u64], i: usize, k: usize) -> &[u64] {
     list(nums, skip(nums, i, k))
 }
 
-pub(crate) fn print(s: &[u8]) {
-    io::write_all(STDOUT_FILENO, s);
+pub(crate) fn print(stdout: &mut Out, s: &[u8]) -> io::Result<()> {
+    stdout.write_all(s)
 }
 
 // A line where there is more to read than room for it.
-pub(crate) fn too_long() {
-    print(b"input too long\n");
+pub(crate) fn too_long(stdout: &mut Out) -> io::Result<()> {
+    print(stdout, b"input too long\n")
 }
 
-pub(crate) fn print_count(n: usize) {
-    io::print_decimal(STDOUT_FILENO, n as u64);
+pub(crate) fn print_count(stdout: &mut Out, n: usize) -> io::Result<()> {
+    write!(stdout, "{n}")
 }
 
-pub(crate) fn print_number(n: u64) {
-    io::print_decimal(STDOUT_FILENO, n);
+pub(crate) fn print_number(stdout: &mut Out, n: u64) -> io::Result<()> {
+    write!(stdout, "{n}")
 }
 
 // Two digits for each byte.
-pub(crate) fn print_bytes(s: &[u8]) {
+pub(crate) fn print_bytes(stdout: &mut Out, s: &[u8]) -> io::Result<()> {
     let mut i = 0;
     while i < s.len() {
-        io::print_hex(STDOUT_FILENO, wide_byte(s[i]), 2);
+        write!(stdout, "{:02x}", s[i])?;
         i += 1;
     }
+    Ok(())
 }
 
 // A space and a number in hexadecimal.
-pub(crate) fn print_word(w: u64) {
-    print(b" 0x");
-    io::print_hex(STDOUT_FILENO, w, 1);
+pub(crate) fn print_word(stdout: &mut Out, w: u64) -> io::Result<()> {
+    write!(stdout, " 0x{w:x}")
 }
 
 // How many words there are, and each of them.
-pub(crate) fn print_words(s: &[u64]) {
-    print_count(s.len());
+pub(crate) fn print_words(stdout: &mut Out, s: &[u64]) -> io::Result<()> {
+    print_count(stdout, s.len())?;
     let mut i = 0;
     while i < s.len() {
-        print_word(s[i]);
+        print_word(stdout, s[i])?;
         i += 1;
     }
+    Ok(())
 }
 
 // The same of sizes.
-pub(crate) fn print_sizes(s: &[usize]) {
-    print_count(s.len());
+pub(crate) fn print_sizes(stdout: &mut Out, s: &[usize]) -> io::Result<()> {
+    print_count(stdout, s.len())?;
     let mut i = 0;
     while i < s.len() {
-        print_size(s[i]);
+        print_size(stdout, s[i])?;
         i += 1;
     }
+    Ok(())
 }
 
-fn print_size(n: usize) {
-    print_word(n as u64);
+fn print_size(stdout: &mut Out, n: usize) -> io::Result<()> {
+    print_word(stdout, n as u64)
 }
 
-pub(crate) fn print_line(s: &[u64]) {
-    print(b"= ");
-    print_words(s);
-    print(b"\n");
+pub(crate) fn print_line(stdout: &mut Out, s: &[u64]) -> io::Result<()> {
+    print(stdout, b"= ")?;
+    print_words(stdout, s)?;
+    print(stdout, b"\n")
 }
 
-pub(crate) fn print_truth(b: bool) {
+pub(crate) fn print_truth(stdout: &mut Out, b: bool) -> io::Result<()> {
     if b {
-        print(b"true");
+        print(stdout, b"true")
     } else {
-        print(b"false");
+        print(stdout, b"false")
     }
 }
 
-pub(crate) fn print_bool(b: bool) {
-    print(b"= ");
-    print_truth(b);
-    print(b"\n");
+pub(crate) fn print_bool(stdout: &mut Out, b: bool) -> io::Result<()> {
+    print(stdout, b"= ")?;
+    print_truth(stdout, b)?;
+    print(stdout, b"\n")
 }
 
-pub(crate) fn print_refusal(code: u32) {
-    print(b"! ");
-    print_number(wide(code));
-    print(b"\n");
+pub(crate) fn print_refusal(stdout: &mut Out, code: u32) -> io::Result<()> {
+    print(stdout, b"! ")?;
+    print_number(stdout, wide(code))?;
+    print(stdout, b"\n")
 }
 
 // The number of a refusal, or whether a message is right.
-pub(crate) fn print_judged(code: u32, holds: bool) {
+pub(crate) fn print_judged(stdout: &mut Out, code: u32, holds: bool) -> io::Result<()> {
     if code != 0 {
-        print(b"! ");
-        print_number(wide(code));
-        return;
+        print(stdout, b"! ")?;
+        return print_number(stdout, wide(code));
     }
-    print(b"= ");
-    print_truth(holds);
+    print(stdout, b"= ")?;
+    print_truth(stdout, holds)
 }
 
 // What a call answered, and the lent words after it.
-pub(crate) fn print_code(code: u32, s: &[u64]) {
-    print(b"= ");
-    print_number(wide(code));
-    print(b" ");
-    print_words(s);
-    print(b"\n");
+pub(crate) fn print_code(stdout: &mut Out, code: u32, s: &[u64]) -> io::Result<()> {
+    print(stdout, b"= ")?;
+    print_number(stdout, wide(code))?;
+    print(stdout, b" ")?;
+    print_words(stdout, s)?;
+    print(stdout, b"\n")
 }
