@@ -10,11 +10,10 @@ use Rattle.magnetar_prover.proofs.capture.round_capturing.Goals as goal
 
 pub returns-then-first-ne0 : goal.returns-then-first-ne0
 returns-then-first-ne0 c =
-    let i = c in
-    let o = i.round_external-first in
-    let x = i.args in
+    let o = c.round_external-first in
+    let x = c.args in
     c.left.ensures ∙ capture-refused x.n x.msg.now (value x.claim) x.t x.label.now
-    (told-refused x.n x.msg.now (value x.claim) _ (left_by o.result) o.ensures i.if-first-ne0.true)
+    (told-refused x.n x.msg.now (value x.claim) _ (left_by o.result) o.ensures c.if-first-ne0.true)
 
 pub returns-then-t-ge4294967296 : goal.returns-then-t-ge4294967296
 returns-then-t-ge4294967296 c =
@@ -22,8 +21,7 @@ returns-then-t-ge4294967296 c =
         let o = c.round_external-first in
         let x = c.args in
         told-sized x.n x.msg.now (value x.claim) _ (left_by o.result) o.ensures c.if-first-ne0.false in
-    let i = c in
-    let x = i.args in
+    let x = c.args in
     c.left-then-t-ge4294967296.ensures ∙ capture-late x.n x.msg.now (value x.claim) x.t x.label.now (wanted) c.if-t-ge4294967296.true
 
 pub returns-then-first : goal.returns-then-first
@@ -33,15 +31,12 @@ returns-then-first c =
         let x = c.args in
         told-sized x.n x.msg.now (value x.claim) _ (left_by o.result) o.ensures c.if-first-ne0.false in
     let l = c.round_external-round in
-    let e = c in
-    let h = c in
-    let i = c in
-    let o = i.round_external-first in
-    let x = i.args in
-    let right = sym (told-holds x.n x.msg.now (value x.claim) _ (left_by o.result) o.ensures (wanted)) ∙ h.if-first.true in
-    capture-right x.n x.msg.now (value x.claim) x.t x.label.now (wanted) (omega (arith, h.if-t-ge4294967296.false)) right
-    e.draw-next.result e.element-r.result (value l.result.claim)
-    (rw (e.draw-next.ensures, e.absorb_words-absorbed.ensures)) e.element-r.ensures
+    let o = c.round_external-first in
+    let x = c.args in
+    let right = sym (told-holds x.n x.msg.now (value x.claim) _ (left_by o.result) o.ensures (wanted)) ∙ c.if-first.true in
+    capture-right x.n x.msg.now (value x.claim) x.t x.label.now (wanted) (omega (arith, c.if-t-ge4294967296.false)) right
+    c.draw-next.result c.element-r.result (value l.result.claim)
+    (rw (c.draw-next.ensures, c.absorb_words-absorbed.ensures)) c.element-r.ensures
     (told-claim x.n x.msg.now (value x.claim) _ (left_by l.result) l.ensures (wanted) right)
 
 pub returns : goal.returns
@@ -50,9 +45,7 @@ returns c =
         let o = c.round_external-first in
         let x = c.args in
         told-sized x.n x.msg.now (value x.claim) _ (left_by o.result) o.ensures c.if-first-ne0.false in
-    let h = c in
-    let i = c in
-    let o = i.round_external-first in
-    let x = i.args in
-    c.left-2.ensures ∙ capture-wrong x.n x.msg.now (value x.claim) x.t x.label.now (wanted) (omega (arith, h.if-t-ge4294967296.false))
-    (sym (told-holds x.n x.msg.now (value x.claim) _ (left_by o.result) o.ensures (wanted)) ∙ h.if-first.false)
+    let o = c.round_external-first in
+    let x = c.args in
+    c.left-2.ensures ∙ capture-wrong x.n x.msg.now (value x.claim) x.t x.label.now (wanted) (omega (arith, c.if-t-ge4294967296.false))
+    (sym (told-holds x.n x.msg.now (value x.claim) _ (left_by o.result) o.ensures (wanted)) ∙ c.if-first.false)

@@ -56,7 +56,7 @@ returns c =
       c.of_counter-y.ensures,
       c.drawn_words-d.ensures,
       c.sent_words-a.ensures,
-      c.Block-words.ensures,
+      c.block_words-e.ensures,
       c.log2-l.ensures.0,
       c.log2-b.ensures.0,
       c.log2-f.ensures.0,

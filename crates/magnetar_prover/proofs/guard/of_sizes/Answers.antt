@@ -17,6 +17,5 @@ pub returns : goal.returns
 returns c =
     let columns : c.refuse-z.result ≡ first_refusal 0 (column_tests c.args.m) =
         rw (c.refuse-z.ensures, c.is_size.ensures) in
-    let i = c in
-    let x = i.args in
-    layout-rest x.m x.lens.now _ (sym (columns) ∙ i.if-z-ne0.false) c.refusal.ensures
+    let x = c.args in
+    layout-rest x.m x.lens.now _ (sym (columns) ∙ c.if-z-ne0.false) c.refusal.ensures

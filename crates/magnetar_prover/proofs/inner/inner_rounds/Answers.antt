@@ -103,11 +103,7 @@ returns c = let x = c.args in let f = inner-fits x.m x.lens.now x.proof.now x.dr
     let l : length (take (6 * x.m) x.s.now) ≡ 6 * x.m = length-take-le _ _ f.scratch in record {
       answer = ap₂ (λ (n : ℕ) (u : Transcript). record { code = n; transcript = u }) e (ap (λ (p : Steps). p.run_state.transcript) q ∙ done _ x.t e refl);
       proof = laid-over c.run-u.new.proof x.proof.now (2 * (3 * c.log2-k.result + 1 + length x.lens.now)) (3 * c.log2-k.result + 1 + length x.lens.now) refl a (omega (arith, k, f.sent)) (λ
-            i. omega (arith, c.slice_known-4-1.given i)) ∙ (ap (λ (p : Steps). overlaid (words p.sent) x.proof.now) q ∙ done _ x.proof.now e refl);
-      draws = laid-over c.run-u.new.draws x.draws.now (2 * c.log2-k.result) c.log2-k.result refl d (omega (arith, k, f.drawn)) (λ i. omega (
-            arith,
-            c.slice_known-5-1.given
-                i,
-          )) ∙ (ap (λ (p : Steps). overlaid (words p.run_state.draws) x.draws.now) q ∙ done _ x.draws.now e refl);
+            i. omega (arith, c.type_inv.proof i)) ∙ (ap (λ (p : Steps). overlaid (words p.sent) x.proof.now) q ∙ done _ x.proof.now e refl);
+      draws = laid-over c.run-u.new.draws x.draws.now (2 * c.log2-k.result) c.log2-k.result refl d (omega (arith, k, f.drawn)) (λ i. omega (arith, c.type_inv.draws i)) ∙ (ap (λ (p : Steps). overlaid (words p.run_state.draws) x.draws.now) q ∙ done _ x.draws.now e refl);
       scratch = rw (c.run-u.ensures.cleared, l) (done _ x.s.now e refl);
     }

@@ -16,12 +16,11 @@ slice_bounds-inner_message-end c = sym (length-take-le _ _ (omega arith))
 
 pub returns : goal.returns
 returns c =
-    let s = c in
-    let x = s.args in
-    let p = s.requires in
-    let w = p.1.0 in
+    let x = c.args in
+    let p = c.requires in
+    let w = p.table in
     let l = length-take-le x.n x.s.now (omega arith) in
     let k = part-size x.s.now (2 * x.m) x.n (omega arith) in
     c.inner_message-done.ensures.message
-    ∙ (inner-written x.out.now (take x.n x.s.now) (take (2 * x.m + x.n - 2 * x.m) (drop (2 * x.m) x.s.now)) w.vars p.1.1 (l ∙ w.size) (k ∙ sym l) w.var w.few
+    ∙ (inner-written x.out.now (take x.n x.s.now) (take (2 * x.m + x.n - 2 * x.m) (drop (2 * x.m) x.s.now)) w.vars p.out_len (l ∙ w.size) (k ∙ sym l) w.var w.few
     ∙ ap (λ (z : List ℕ). words (inner_message 0 (elements (take x.n x.s.now)) (elements z))) (part-is x.s.now (2 * x.m) x.n))

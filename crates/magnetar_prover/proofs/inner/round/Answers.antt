@@ -12,19 +12,19 @@ use native.Mathlib.Omega.{arith}
 use Rattle.magnetar_prover.proofs.inner.round.Goals as goal
 
 pub message-requires : goal.message-requires
-message-requires c = let s = c in record {
-      s_len = s.requires.s_len;
-      table = s.requires.table;
-      out_len = part-size s.args.proof.now (6 * s.args.i) 6 s.requires.i_bound.1;
+message-requires c = record {
+      s_len = c.requires.s_len;
+      table = c.requires.table;
+      out_len = part-size c.args.proof.now (6 * c.args.i) 6 c.requires.i_bound.1;
     }
 
 pub returns : goal.returns
-returns c = let s = c in
-    let x = s.args in
+returns c =
+    let x = c.args in
     let m = inner_message 0 (table_at 0 x.n x.s.now) (table_at (2 * x.m) x.n x.s.now) in
     let k : 6 * x.i ≡ 2 * (3 * x.i) = omega arith in
-    let r : 6 * x.i + 6 ≤ length x.proof.now = s.requires.i_bound.1 in
-    let q : 2 * x.i + 2 ≤ length x.draws.now = s.requires.i_bound.2 in
+    let r : 6 * x.i + 6 ≤ length x.proof.now = c.requires.i_bound.1 in
+    let q : 2 * x.i + 2 ≤ length x.draws.now = c.requires.i_bound.2 in
     let written = c.message.ensures in
     let there = sent-there x.proof.now c.message.new.out m (6 * x.i) 6 (3 * x.i) 3 k refl r (inner-three 0 _ _) written in
     inner-stepped x.m x.n (3 * x.i) x.i (value c.element-r.result) x.t

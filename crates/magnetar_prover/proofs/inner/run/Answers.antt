@@ -21,7 +21,7 @@ rounds-u-requires c = let x = c.args in let p = c.requires in
     )) in
     let q : 8 * x.w ≡ 4 * (2 * x.w) = omega arith in record {
       s_len = (l ∙ q, omega arith, omega arith, omega arith, omega arith);
-      m_value = p.1.1.0;
+      m_value = p.w_value.0;
     }
 
 pub offset_bounds-s-a : goal.offset_bounds-s-a
@@ -33,7 +33,7 @@ offset_bounds-s-a c = omega (
 pub slice_bounds-send_segments-end : goal.slice_bounds-send_segments-end
 slice_bounds-send_segments-end c = let x = c.args in
     let p = c.requires in
-    let l : length c.lay_out.new.s ≡ 12 * x.w = c.lay_out.auto.s ∙ p.0.0 in
+    let l : length c.lay_out.new.s ≡ 12 * x.w = c.lay_out.auto.s ∙ p.s_len.0 in
     let f : length c.rounds-u.new.s ≡ 8 * x.w = c.rounds-u.auto.s ∙ length-take-le _ _ (omega (arith, l)) in
     let g : length (c.rounds-u.new.s ++ drop (8 * x.w) c.lay_out.new.s) ≡ 12 * x.w = fore-length c.lay_out.new.s c.rounds-u.new.s (8 * x.w) (omega (arith, l)) f ∙ l in
     omega (arith, g)
@@ -41,38 +41,38 @@ slice_bounds-send_segments-end c = let x = c.args in
 pub send_segments-r-requires : goal.send_segments-r-requires
 send_segments-r-requires c = let x = c.args in
     let p = c.requires in
-    let l : length c.lay_out.new.s ≡ 12 * x.w = c.lay_out.auto.s ∙ p.0.0 in
+    let l : length c.lay_out.new.s ≡ 12 * x.w = c.lay_out.auto.s ∙ p.s_len.0 in
     let f : length c.rounds-u.new.s ≡ 8 * x.w = c.rounds-u.auto.s ∙ length-take-le _ _ (omega (arith, l)) in
     let g : length (c.rounds-u.new.s ++ drop (8 * x.w) c.lay_out.new.s) ≡ 12 * x.w = fore-length c.lay_out.new.s c.rounds-u.new.s (8 * x.w) (omega (arith, l)) f ∙ l in
-    let d : length c.rounds-u.new.draws ≡ 2 * x.k = c.rounds-u.auto.draws ∙ p.1.0.0 in
+    let d : length c.rounds-u.new.draws ≡ 2 * x.k = c.rounds-u.auto.draws ∙ p.draws_len.0 in
     let h : length c.send_z-v.new.proof ≡ length x.proof.now = c.send_z-v.auto.proof ∙ c.rounds-u.auto.proof in
     let i : 12 * x.w - 8 * x.w ≡ 4 * x.w = omega arith in record {
       k_bound = (
-        omega (arith, p.0.4),
-        p.1.0.1,
-        omega (arith, h, p.1.0.2),
-        p.0.2,
-        p.1.0.3,
+        omega (arith, p.s_len.4),
+        p.draws_len.1,
+        omega (arith, h, p.draws_len.2),
+        p.s_len.2,
+        p.draws_len.3,
         part_length _ (8 * x.w) (12 * x.w) (omega (arith, g))
             ∙ i,
       );
-      locals = locals-wider x.w x.lens.now (2 * x.k - 2) _ (omega (arith, d)) p.1.1.1;
+      locals = locals-wider x.w x.lens.now (2 * x.k - 2) _ (omega (arith, d)) p.w_value.1;
     }
 
 pub returns : goal.returns
 returns c = let x = c.args in
     let p = c.requires in
     let l : length c.lay_out.new.s ≡ 12 * x.w
-    = c.lay_out.auto.s ∙ p.0.0 in
+    = c.lay_out.auto.s ∙ p.s_len.0 in
     let f : length c.rounds-u.new.s ≡ 8 * x.w = c.rounds-u.auto.s ∙ length-take-le _ _ (omega (arith, l)) in
     let g : length (c.rounds-u.new.s ++ drop (8 * x.w) c.lay_out.new.s) ≡ 12 * x.w = fore-length c.lay_out.new.s c.rounds-u.new.s (8 * x.w) (omega (arith, l)) f ∙ l in
-    let d : length c.rounds-u.new.draws ≡ 2 * x.k = c.rounds-u.auto.draws ∙ p.1.0.0 in
+    let d : length c.rounds-u.new.draws ≡ 2 * x.k = c.rounds-u.auto.draws ∙ p.draws_len.0 in
     let k : length c.send_segments-r.new.s ≡ 12 * x.w - 8 * x.w
     = c.send_segments-r.auto.s ∙ part_length _ (8 * x.w) (12 * x.w) (omega (arith, g)) in
-    let e = put-length (c.rounds-u.new.s ++ drop (8 * x.w) c.lay_out.new.s) c.send_segments-r.new.s (8 * x.w) (12 * x.w) (omega arith) (omega (arith, g)) k ∙ (g ∙ sym p.0.0) in
+    let e = put-length (c.rounds-u.new.s ++ drop (8 * x.w) c.lay_out.new.s) c.send_segments-r.new.s (8 * x.w) (12 * x.w) (omega arith) (omega (arith, g)) k ∙ (g ∙ sym p.s_len.0) in
     let a = c.lay_out in
     let b = c.rounds-u in record {
-      run = whole_is x.k x.w x.lens.now x.s.now a.last.1.0 b.last.1.1.1.1.0 x.proof.now b.last.1.1.0 c.send_z-v.new.proof c.send_segments-r.new.proof x.draws.now b.last.1.1.1.0 x.t b.result c.send_z-v.result c.send_segments-r.result l p.0.1 f d
+      run = whole_is x.k x.w x.lens.now x.s.now a.new.s b.new.s x.proof.now b.new.proof c.send_z-v.new.proof c.send_segments-r.new.proof x.draws.now b.new.draws x.t b.result c.send_z-v.result c.send_segments-r.result l p.s_len.1 f d
           a.ensures.table a.ensures.z a.ensures.copy b.ensures c.send_z-v.ensures.transcript c.send_z-v.ensures.sent c.send_segments-r.ensures;
       cleared = c.clear.ensures ∙ ap (λ (n : ℕ). replicate n 0) e;
     }

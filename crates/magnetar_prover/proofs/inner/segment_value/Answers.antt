@@ -35,14 +35,12 @@ segment_dot-requires c = let l = c.requires.local in (
 
 pub returns : goal.returns
 returns c =
-    let b = c in
-    let g = b.log2-k in
-    let s = c in
-    let x = s.args in
+    let g = c.log2-k in
+    let x = c.args in
     let n = get_or x.lens.now x.i 0 in
-    let h : 2 * x.w + 2 * n ≤ length x.s.now = omega (arith, s.requires.local.most) in
-    let point = local-point x.w n g.result x.draws.now x.s.now g.ensures.0 s.requires.local (omega (arith, s.requires.local.most)) in
-    let built = b.build-done.ensures.table ∙ eq-built _ _ point in record {
-      value = c.segment_dot.ensures ∙ segment-sum x.w n g.result x.i x.lens.now x.draws.now x.s.now b.build-done.new.out g.ensures.0 refl s.requires.local h built;
-      kept = columns-kept x.w n g.result x.i x.lens.now x.draws.now x.s.now b.build-done.new.out g.ensures.0 refl s.requires.local h built;
+    let h : 2 * x.w + 2 * n ≤ length x.s.now = omega (arith, c.requires.local.most) in
+    let point = local-point x.w n g.result x.draws.now x.s.now g.ensures.0 c.requires.local (omega (arith, c.requires.local.most)) in
+    let built = c.build-done.ensures.table ∙ eq-built _ _ point in record {
+      value = c.segment_dot.ensures ∙ segment-sum x.w n g.result x.i x.lens.now x.draws.now x.s.now c.build-done.new.out g.ensures.0 refl c.requires.local h built;
+      kept = columns-kept x.w n g.result x.i x.lens.now x.draws.now x.s.now c.build-done.new.out g.ensures.0 refl c.requires.local h built;
     }

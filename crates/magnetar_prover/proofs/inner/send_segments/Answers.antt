@@ -23,8 +23,8 @@ loop-i-init c = let x = c.args in (
 
 pub send_segment-v-requires : goal.send_segment-v-requires
 send_segment-v-requires c = let l = c.loop-i in let p = c.requires in record {
-      p_bound = (omega arith, omega arith, omega arith, p.0.4, omega arith, omega arith);
-      local = p.1.each l.i (omega arith);
+      p_bound = (omega arith, omega arith, omega arith, p.k_bound.4, omega arith, omega arith);
+      local = p.locals.each l.i (omega arith);
     }
 
 pub loop-i-preserved : goal.loop-i-preserved

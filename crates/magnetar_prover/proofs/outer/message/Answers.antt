@@ -14,9 +14,9 @@ pub returns : goal.returns
 returns c = let x = c.args in
     let p = c.requires in
     let h : x.n ≤ length x.s.now = omega arith in
-    let f = eq-behind x.s.now x.n x.v p.1 h c.drop_var-done.new.table c.drop_var-done.ensures.dropped in
-    let g = eq-dropped x.s.now x.n x.v p.1 h c.drop_var-done.new.table c.drop_var-done.ensures.dropped in record {
+    let f = eq-behind x.s.now x.n x.v p.table h c.drop_var-done.new.table c.drop_var-done.ensures.dropped in
+    let g = eq-dropped x.s.now x.n x.v p.table h c.drop_var-done.new.table c.drop_var-done.ensures.dropped in record {
       written = c.send_message.ensures ∙ rw (g, f x.w x.n (omega arith), f (2 * x.w) x.n (omega arith), f (3 * x.w) x.n (omega arith));
       dropped = g;
-      kept = eq-rest x.s.now x.n x.v p.1 h c.drop_var-done.new.table c.drop_var-done.ensures.dropped x.w (omega arith);
+      kept = eq-rest x.s.now x.n x.v p.table h c.drop_var-done.new.table c.drop_var-done.ensures.dropped x.w (omega arith);
     }

@@ -16,19 +16,19 @@ use Rattle.magnetar_prover.proofs.outer.row.Goals as goal
 
 pub message-requires : goal.message-requires
 message-requires c = let x = c.args in let p = c.requires in record {
-      s_len = (p.0.0, p.0.1, p.0.2, part-size x.proof.now (2 * x.p) 8 p.0.4);
-      table = p.1.table;
+      s_len = (p.s_len.0, p.s_len.1, p.s_len.2, part-size x.proof.now (2 * x.p) 8 p.s_len.4);
+      table = p.rows.table;
     }
 
 pub end_round-y-requires : goal.end_round-y-requires
 end_round-y-requires c = let p = c.requires in record {
       s_len = (
-    c.message.auto.s ∙ p.0.0,
-    p.0.1,
-    p.0.2,
-    p.0.5,
+    c.message.auto.s ∙ p.s_len.0,
+    p.s_len.1,
+    p.s_len.2,
+    p.s_len.5,
   );
-      table = p.1.table;
+      table = p.rows.table;
     }
 
 pub returns : goal.returns
@@ -38,9 +38,9 @@ returns c = let x = c.args in
     (table_at (2 * x.w) x.n x.s.now) (table_at (3 * x.w) x.n x.s.now) in
     let g = c.message.ensures in
     let h = c.end_round-y.ensures in
-    let there = sent-there x.proof.now c.message.new.out m (2 * x.p) 8 x.p 4 refl refl p.0.4 (outer-four 0 _ _ _ _ _ _) g.written in
-    let l : x.d ≤ length (elements x.draws.now) = rw elements-length (omega (arith, p.0.5)) in
+    let there = sent-there x.proof.now c.message.new.out m (2 * x.p) 8 x.p 4 refl refl p.s_len.4 (outer-four 0 _ _ _ _ _ _) g.written in
+    let l : x.d ≤ length (elements x.draws.now) = rw elements-length (omega (arith, p.s_len.5)) in
     row_done (row_label x.bin) x.i x.p x.d x.o (value x.k) (value c.end_round-y.result) (value c.get-tau.result) x.w x.n x.t c.row_round-u.result x.proof.now _ x.draws.now c.end_round-y.new.draws x.s.now c.message.new.s c.end_round-y.new.s
-    p.1 p.0.2 l c.get-tau.ensures (c.row_round-u.ensures ∙ rw there)
-    (sent-more x.proof.now c.message.new.out m (2 * x.p) 8 x.p 4 refl refl p.0.4 (outer-four 0 _ _ _ _ _ _) g.written)
+    p.rows p.s_len.2 l c.get-tau.ensures (c.row_round-u.ensures ∙ rw there)
+    (sent-more x.proof.now c.message.new.out m (2 * x.p) 8 x.p 4 refl refl p.s_len.4 (outer-four 0 _ _ _ _ _ _) g.written)
     h.drawn h.k g.dropped g.kept h.e h.a h.b h.c

@@ -15,12 +15,12 @@ slice_bounds-outer_message-end c = sym (length-take-le _ _ (omega arith))
 pub returns : goal.returns
 returns c = let x = c.args in
     let p = c.requires in
-    let w = p.1 in
+    let w = p.table in
     let a = part-size x.s.now x.w x.n (omega arith) in
     let b = part-size x.s.now (2 * x.w) x.n (omega arith) in
     let d = part-size x.s.now (3 * x.w) x.n (omega arith) in
     let e : length (take (x.n / 2) x.s.now) ≡ x.n / 2 = length-take-le (x.n / 2) x.s.now (omega arith) in
     c.outer_message-done.ensures.message
     ∙ (outer-written x.out.now (take (x.n / 2) x.s.now) (take (x.w + x.n - x.w) (drop x.w x.s.now)) (take (2 * x.w + x.n - 2
-    * x.w) (drop (2 * x.w) x.s.now)) (take (3 * x.w + x.n - 3 * x.w) (drop (3 * x.w) x.s.now)) x.v (value x.k) (value x.t) w.vars p.0.3 (a ∙ w.size) (b ∙ sym a) (d ∙ sym a) (e ∙ ap (λ (i : ℕ). i / 2) (sym a)) w.var w.few
+    * x.w) (drop (2 * x.w) x.s.now)) (take (3 * x.w + x.n - 3 * x.w) (drop (3 * x.w) x.s.now)) x.v (value x.k) (value x.t) w.vars p.s_len.3 (a ∙ w.size) (b ∙ sym a) (d ∙ sym a) (e ∙ ap (λ (i : ℕ). i / 2) (sym a)) w.var w.few
     ∙ rw (part-is x.s.now x.w x.n, part-is x.s.now (2 * x.w) x.n, part-is x.s.now (3 * x.w) x.n))

@@ -104,14 +104,14 @@ pub slice_bounds-run-end-5 : goal.slice_bounds-run-end-5
 slice_bounds-run-end-5 c = let f = outer-fits c.args.q c.args.rb c.args.rf c.args.proof.now c.args.draws.now
     c.args.s.now c.args.t (sym c.of_outer-z.ensures ∙ c.if-z-ne0.false) in (omega (
       arith,
-      c.Block-words.ensures,
+      c.block_words-e.ensures,
       f.scratch,
     ))
 
 pub slice_bounds-run-end-6 : goal.slice_bounds-run-end-6
 slice_bounds-run-end-6 c = let f = outer-fits c.args.q c.args.rb c.args.rf c.args.proof.now c.args.draws.now c.args.s.now c.args.t (sym c.of_outer-z.ensures ∙ c.if-z-ne0.false) in sym (length-take-le _ _ (omega (
   arith,
-  c.Block-words.ensures,
+  c.block_words-e.ensures,
   f.scratch,
 )))
 
@@ -134,14 +134,14 @@ run-u-requires c = let f = outer-fits c.args.q c.args.rb c.args.rf c.args.proof.
       f.drawn,
     )) ∙ c.drawn_words-d.ensures) (length-take-le _ _ (omega (
       arith,
-      c.Block-words.ensures,
+      c.block_words-e.ensures,
       f.scratch,
-    )) ∙ c.Block-words.ensures) f.totals
+    )) ∙ c.block_words-e.ensures) f.totals
 
 pub returns : goal.returns
 returns c = let f = outer-fits c.args.q c.args.rb c.args.rf c.args.proof.now c.args.draws.now c.args.s.now c.args.t (sym c.of_outer-z.ensures ∙ c.if-z-ne0.false) in let e : ◌≡◌ {A = ℕ} 0 (outer_rounds_refusal c.args.q c.args.rb c.args.rf c.args.proof.now c.args.draws.now c.args.s.now c.args.t) = sym
     (sym c.of_outer-z.ensures ∙ c.if-z-ne0.false) in
-    let q = c.run-u.ensures.run ∙ played-is c.args.q c.args.rb c.args.rf c.log2-l.result c.log2-b.result c.log2-f.result c.table_words-wb.result c.table_words-wf.result c.Block-words.result c.args.s.now c.args.t c.log2-l.ensures.0 c.log2-b.ensures.0 c.log2-f.ensures.0 c.table_words-wb.ensures c.table_words-wf.ensures c.Block-words.ensures in
+    let q = c.run-u.ensures.run ∙ played-is c.args.q c.args.rb c.args.rf c.log2-l.result c.log2-b.result c.log2-f.result c.table_words-wb.result c.table_words-wf.result c.block_words-e.result c.args.s.now c.args.t c.log2-l.ensures.0 c.log2-b.ensures.0 c.log2-f.ensures.0 c.table_words-wb.ensures c.table_words-wf.ensures c.block_words-e.ensures in
     let a : length c.run-u.new.proof ≡ c.sent_words-a.result = c.run-u.auto.proof ∙ length-take-le _ _ (omega (
       arith,
       c.sent_words-a.ensures,
@@ -158,12 +158,12 @@ returns c = let f = outer-fits c.args.q c.args.rb c.args.rf c.args.proof.now c.a
       c.log2-f.ensures.0,
       f.drawn,
     )) in
-    let l : length (take c.Block-words.result
+    let l : length (take c.block_words-e.result
     c.args.s.now) ≡ block_words c.args.q c.args.rb c.args.rf = length-take-le _ _ (omega (
       arith,
-      c.Block-words.ensures,
+      c.block_words-e.ensures,
       f.scratch,
-    )) ∙ c.Block-words.ensures in record {
+    )) ∙ c.block_words-e.ensures in record {
       answer = ap₂ (λ (n : ℕ) (u : Transcript). record { code = n; transcript = u }) e (ap (λ (p : Steps). p.run_state.transcript) q ∙ done _ c.args.t e refl);
       proof = laid-over c.run-u.new.proof c.args.proof.now c.sent_words-a.result (outer_sent c.log2-l.result c.log2-b.result c.log2-f.result) c.sent_words-a.ensures a (omega (
           arith,
@@ -172,7 +172,7 @@ returns c = let f = outer-fits c.args.q c.args.rb c.args.rf c.args.proof.now c.a
           c.log2-b.ensures.0,
           c.log2-f.ensures.0,
           f.sent,
-        )) (λ i. omega (arith, c.slice_known-4-1.given i)) ∙ (ap (λ (p : Steps). overlaid
+        )) (λ i. omega (arith, c.type_inv.proof i)) ∙ (ap (λ (p : Steps). overlaid
             (words p.sent) c.args.proof.now) q ∙ done _ c.args.proof.now e refl);
       draws = laid-over c.run-u.new.draws c.args.draws.now c.drawn_words-d.result (outer_drawn c.log2-l.result c.log2-b.result c.log2-f.result) c.drawn_words-d.ensures d (omega (
             arith,
@@ -181,11 +181,11 @@ returns c = let f = outer-fits c.args.q c.args.rb c.args.rf c.args.proof.now c.a
             c.log2-b.ensures.0,
             c.log2-f.ensures.0,
             f.drawn,
-          )) (λ i. omega (arith, c.slice_known-5-1.given i)) ∙ (ap (λ (p :
+          )) (λ i. omega (arith, c.type_inv.draws i)) ∙ (ap (λ (p :
               Steps). overlaid (words p.run_state.draws) c.args.draws.now) q ∙ done _ c.args.draws.now e refl);
       scratch = rw (
             c.run-u.ensures.cleared,
             l,
-            c.Block-words.ensures,
+            c.block_words-e.ensures,
           ) (done _ c.args.s.now e refl);
     }

@@ -15,7 +15,7 @@ returns c =
     let p = a.proof.now in
     let i = c.ahead-a in
     let j = c.ahead-b in
-    let fit : (k : ℕ) → get_or p k 0 < 2 ^ 64 = λ k. omega (arith, c.shared_slice_known-2-1.given k) in
+    let fit : (k : ℕ) → get_or p k 0 < 2 ^ 64 = λ k. omega (arith, c.type_inv.proof k) in
     λ next out was whole rest g.
     absorbed-one _ _ a.k (omega arith) (part-words p a.s.place a.k i.result j.result fit i.ensures j.ensures)
     c.absorb_words-u.ensures refl refl

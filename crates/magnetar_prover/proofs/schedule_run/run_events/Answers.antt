@@ -10,8 +10,6 @@ returns-then-z-ne0 c =
 
 pub returns : goal.returns
 returns c =
-    let e = c in
-    let i = c in
-    let x = i.args in let all = play-done (sizes_only x.m x.q x.rb x.rf x.lens.now) x.proof.now x.draws.now x.to x.t _ i.of_play-z.ensures i.if-z-ne0.false
-    _ _ e.events_to-u.ensures.transcript e.events_to-u.ensures.draws in
+    let x = c.args in let all = play-done (sizes_only x.m x.q x.rb x.rf x.lens.now) x.proof.now x.draws.now x.to x.t _ c.of_play-z.ensures c.if-z-ne0.false
+    _ _ c.events_to-u.ensures.transcript c.events_to-u.ensures.draws in
     record { answer = all.0; draws = all.1 }

@@ -12,8 +12,8 @@ slice_bounds-fold-end-2 c = sym (length-take-le _ _ (omega arith))
 
 pub fold-requires : goal.fold-requires
 fold-requires c = let p = c.requires in record {
-      s_len = (length-take-le _ _ (omega arith), p.0.1, p.0.3);
-      table = p.1.0;
+      s_len = (length-take-le _ _ (omega arith), p.s_len.1, p.s_len.3);
+      table = p.table.0;
     }
 
 pub fold-requires-2 : goal.fold-requires-2
@@ -21,22 +21,22 @@ fold-requires-2 c = let x = c.args in
     let p = c.requires in
     let one : length c.fold.new.s ≡ 4 * x.wb = c.fold.auto.s ∙ length-take-le _ _ (omega arith) in record {
       s_len = (
-        ap length (lent-behind x.s.now c.fold.new.s (4 * x.wb) (4 * x.wf) p.0.0 one) ∙ rest-length x.s.now c.fold.new.s (4 * x.wb) (4 * x.wf) p.0.0 one,
-        p.0.2,
-        p.0.4,
+        ap length (lent-behind x.s.now c.fold.new.s (4 * x.wb) (4 * x.wf) p.s_len.0 one) ∙ rest-length x.s.now c.fold.new.s (4 * x.wb) (4 * x.wf) p.s_len.0 one,
+        p.s_len.2,
+        p.s_len.4,
       );
-      table = p.1.1;
+      table = p.table.1;
     }
 
 pub returns : goal.returns
 returns c = let x = c.args in
     let p = c.requires in
     let one : length c.fold.new.s ≡ 4 * x.wb = c.fold.auto.s ∙ length-take-le _ _ (omega arith) in
-    let two : length c.fold-2.new.s ≡ 4 * x.wf = c.fold-2.auto.s ∙ (ap length (lent-behind x.s.now c.fold.new.s (4 * x.wb) (4 * x.wf) p.0.0 one) ∙ rest-length x.s.now c.fold.new.s (4 * x.wb) (4 * x.wf) p.0.0 one) in
+    let two : length c.fold-2.new.s ≡ 4 * x.wf = c.fold-2.auto.s ∙ (ap length (lent-behind x.s.now c.fold.new.s (4 * x.wb) (4 * x.wf) p.s_len.0 one) ∙ rest-length x.s.now c.fold.new.s (4 * x.wb) (4 * x.wf) p.s_len.0 one) in
     let f = c.fold.ensures in
     let g = c.fold-2.ensures in record {
       bin = front-folded x.s.now c.fold.new.s c.fold-2.new.s (4 * x.wb) (4
-          * x.wf) p.0.0 one two (record { a = f.a; b = f.b; c = f.c; e = f.e });
+          * x.wf) p.s_len.0 one two (record { a = f.a; b = f.b; c = f.c; e = f.e });
       fld = behind-folded x.s.now c.fold.new.s c.fold-2.new.s (4 * x.wb)
-          (4 * x.wf) p.0.0 one two (record { a = g.a; b = g.b; c = g.c; e = g.e });
+          (4 * x.wf) p.s_len.0 one two (record { a = g.a; b = g.b; c = g.c; e = g.e });
     }

@@ -21,11 +21,11 @@ message-requires c = let x = c.args in let p = c.requires in record {
       s_len = (
     length-take-le _ _
         (omega arith),
-    p.0.1,
-    p.0.3,
+    p.s_len.1,
+    p.s_len.3,
     part-size x.proof.now (2 * x.p) 8 (omega arith),
   );
-      table = p.1.0;
+      table = p.table.0;
     }
 
 pub message-requires-2 : goal.message-requires-2
@@ -35,14 +35,14 @@ message-requires-2 c = let x = c.args in
     let l : length c.message.new.out ≡ 8 = c.message.auto.out ∙ part-size x.proof.now (2 * x.p) 8 (omega arith) in
     let m = mid-length x.proof.now c.message.new.out (2 * x.p) 8 (omega arith) l in record {
       s_len = (
-        ap length (lent-behind x.s.now c.message.new.s (4 * x.wb) (4 * x.wf) p.0.0
-            one) ∙ rest-length x.s.now c.message.new.s (4 * x.wb) (4 * x.wf) p.0.0
+        ap length (lent-behind x.s.now c.message.new.s (4 * x.wb) (4 * x.wf) p.s_len.0
+            one) ∙ rest-length x.s.now c.message.new.s (4 * x.wb) (4 * x.wf) p.s_len.0
             one,
-        p.0.2,
-        p.0.4,
+        p.s_len.2,
+        p.s_len.4,
         part-size _ (2 * x.p + 8) 8 (omega (arith, m)),
       );
-      table = p.1.1;
+      table = p.table.1;
     }
 
 pub returns : goal.returns
@@ -50,25 +50,25 @@ returns c = let x = c.args in
     let p = c.requires in
     let one : length c.message.new.s ≡ 4 * x.wb = c.message.auto.s ∙ length-take-le _ _ (omega
     arith) in
-    let lent = lent-behind x.s.now c.message.new.s (4 * x.wb) (4 * x.wf) p.0.0 one in
+    let lent = lent-behind x.s.now c.message.new.s (4 * x.wb) (4 * x.wf) p.s_len.0 one in
     let two : length c.message-2.new.s ≡ 4 * x.wf = c.message-2.auto.s
-    ∙ (ap length lent ∙ rest-length x.s.now c.message.new.s (4 * x.wb) (4 * x.wf) p.0.0 one) in
+    ∙ (ap length lent ∙ rest-length x.s.now c.message.new.s (4 * x.wb) (4 * x.wf) p.s_len.0 one) in
     let f = c.message.ensures in
     let g = c.message-2.ensures in
     let v = message_in x.vb (value x.kb) (value x.ub) x.wb x.nb (take (4 * x.wb) x.s.now) in
     let w = message_in x.vf (value x.kf) (value x.uf) x.wf x.nf (drop (4 * x.wb) x.s.now) in
     let so : c.message-2.new.out ≡ words w = g.written ∙ ap (λ (l : List ℕ). words (message_in x.vf (value x.kf) (value x.uf) x.wf x.nf l)) lent in record {
-      sent = both-sent x.proof.now c.message.new.out c.message-2.new.out v w x.p p.0.6 (outer-four x.vb _ _ _ _ _ _) (outer-four x.vf _ _ _ _ _ _)
+      sent = both-sent x.proof.now c.message.new.out c.message-2.new.out v w x.p p.s_len.6 (outer-four x.vb _ _ _ _ _ _) (outer-four x.vf _ _ _ _ _ _)
           f.written so;
-      there = both-there x.proof.now c.message.new.out c.message-2.new.out v w x.p p.0.6 (outer-four x.vb _ _ _ _ _ _) (outer-four x.vf _ _ _ _ _
+      there = both-there x.proof.now c.message.new.out c.message-2.new.out v w x.p p.s_len.6 (outer-four x.vb _ _ _ _ _ _) (outer-four x.vf _ _ _ _ _
             _) f.written so;
       bin = front-dropped x.s.now c.message.new.s
-              c.message-2.new.s (4 * x.wb) (4 * x.wf) p.0.0 one two (record {
+              c.message-2.new.s (4 * x.wb) (4 * x.wf) p.s_len.0 one two (record {
                 dropped = f.dropped;
                 kept =
                     f.kept;
               });
-      fld = behind-dropped x.s.now c.message.new.s c.message-2.new.s (4 * x.wb) (4 * x.wf) p.0.0 one two (record {
+      fld = behind-dropped x.s.now c.message.new.s c.message-2.new.s (4 * x.wb) (4 * x.wf) p.s_len.0 one two (record {
             dropped = g.dropped;
             kept = g.kept;
           });

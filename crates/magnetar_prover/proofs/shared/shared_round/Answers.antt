@@ -17,15 +17,15 @@ use Rattle.magnetar_prover.proofs.shared.shared_round.Goals as goal
 pub send_messages-requires : goal.send_messages-requires
 send_messages-requires c = let p = c.requires in record {
       s_len = (
-    p.0.0,
-    p.0.1,
-    p.0.2,
-    p.0.3,
-    p.0.4,
-    p.0.5,
-    p.0.6,
+    p.s_len.0,
+    p.s_len.1,
+    p.s_len.2,
+    p.s_len.3,
+    p.s_len.4,
+    p.s_len.5,
+    p.s_len.6,
   );
-      table = (high-table p.1.0, high-table p.1.1);
+      table = (high-table p.shared.0, high-table p.shared.1);
     }
 
 pub overflow_mul-a : goal.overflow_mul-a
@@ -47,17 +47,17 @@ slice_bounds-shared_round-end c = omega (
 pub end_both-requires : goal.end_both-requires
 end_both-requires c = let p = c.requires in record {
       s_len = (
-    c.send_messages.auto.s ∙ p.0.0,
-    p.0.1,
-    p.0.2,
-    p.0.3,
-    p.0.4,
-    p.0.7,
+    c.send_messages.auto.s ∙ p.s_len.0,
+    p.s_len.1,
+    p.s_len.2,
+    p.s_len.3,
+    p.s_len.4,
+    p.s_len.7,
   );
       table = (
     high-table
-        p.1.0,
-    high-table p.1.1,
+        p.shared.0,
+    high-table p.shared.1,
   );
     }
 
@@ -71,11 +71,11 @@ returns c = let x = c.args in
     let u = c.shared_round-u.result in
     let g = c.send_messages.ensures in
     let h = c.end_both.ensures in
-    let l : x.at.d ≤ length (elements x.draws.now) = rw elements-length (omega (arith, p.0.7)) in
+    let l : x.at.d ≤ length (elements x.draws.now) = rw elements-length (omega (arith, p.s_len.7)) in
     let transcript-is = c.shared_round-u.ensures ∙ ap (λ (w : List ℕ). transcript.drawn
     (transcript.absorbed x.t (numbered "vs-out-shared-" x.i) (word_bytes w)) (numbered "vs-out-shared-" x.i)) (part-is p₁ (2 * x.at.p)
     16 ∙ g.there) in
     rw h.transcript
     (shared-done x.i x.h x.b x.f x.at.o x.at.q x.at.p x.at.d (value x.kb) (value c.end_both.result.kb) (value x.kf) (value c.end_both.result.kf) ub uf x.wb x.nb x.wf x.nf x.t u x.proof.now p₁ x.draws.now c.end_both.new.draws
     x.s.now s₁ c.end_both.new.s
-    p.1.0 p.1.1 p.0.3 p.0.4 l c.get-ub.ensures c.get-uf.ensures transcript-is g.sent h.drawn h.kb h.kf g.bin g.fld h.bin h.fld)
+    p.shared.0 p.shared.1 p.s_len.3 p.s_len.4 l c.get-ub.ensures c.get-uf.ensures transcript-is g.sent h.drawn h.kb h.kf g.bin g.fld h.bin h.fld)

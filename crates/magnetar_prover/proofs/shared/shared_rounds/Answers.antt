@@ -14,9 +14,9 @@ loop-i-init c = let x = c.args in let p = c.requires in (
   refl,
   refl,
   refl,
-  p.0.3,
-  p.0.4,
-  sharing-start x.x x.b x.f x.at.o x.at.q x.at.p x.at.d (value x.kb) (value x.kf) x.wb x.wf x.nb x.nf x.t x.proof.now x.draws.now x.s.now p.1.0 p.1.1,
+  p.s_len.3,
+  p.s_len.4,
+  sharing-start x.x x.b x.f x.at.o x.at.q x.at.p x.at.d (value x.kb) (value x.kf) x.wb x.wf x.nb x.nf x.t x.proof.now x.draws.now x.s.now p.nb_value.0 p.nb_value.1,
 )
 
 pub overflow_add-here : goal.overflow_add-here
@@ -29,18 +29,18 @@ pub shared_round-r-requires : goal.shared_round-r-requires
 shared_round-r-requires c = let x = c.args in let p = c.requires.s_len in let l = c.loop-i in
     let h : l.i < x.x = c.loop-i-test.true in record {
       s_len = (
-        omega (arith, p.0, l.inv.3),
+        omega (arith, p.0, l.invariant.3),
         p.1,
         p.2,
-        l.inv.4,
-        l.inv.5,
-        omega (arith, p.5, p.7, l.inv.0),
-        omega (arith, p.11, l.inv.1, h),
-        omega (arith, p.12, l.inv.2, h),
+        l.invariant.4,
+        l.invariant.5,
+        omega (arith, p.5, p.7, l.invariant.0),
+        omega (arith, p.11, l.invariant.1, h),
+        omega (arith, p.12, l.invariant.2, h),
       );
       shared = (
-        sharing-bin l.inv.6 (omega (arith, h)) x.at.o x.at.d p.5 p.9,
-        sharing-fld l.inv.6
+        sharing-bin l.invariant.6 (omega (arith, h)) x.at.o x.at.d p.5 p.9,
+        sharing-fld l.invariant.6
             (omega (arith, h)) x.at.q x.at.d p.6 p.10,
       );
     }

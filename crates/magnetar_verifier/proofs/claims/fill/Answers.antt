@@ -16,14 +16,13 @@ loop-i-init c = (search rules, refl, made_none _ _)
 
 pub loop-i-preserved : goal.loop-i-preserved
 loop-i-preserved c =
-    let p = c in
-    let l = p.loop-i in
-    let x = p.args in (
+    let l = c.loop-i in
+    let x = c.args in (
       search rules,
       search rules,
-      rw (ap elements p.put.ensures ∙ elements-stored l.out l.i (value p.claim.result))
+      rw (ap elements c.put.ensures ∙ elements-stored l.out l.i (value c.claim.result))
           (made_more (claim_at x.s x.n x.k x.j x.v (elements x.proof.now) (elements x.draws.now)) (elements x.out.now)
-          (elements l.out) l.i (value p.claim.result) l.invariant.2 (rw elements-length (omega arith)) p.claim.ensures),
+          (elements l.out) l.i (value c.claim.result) l.invariant.2 (rw elements-length (omega arith)) c.claim.ensures),
     )
 
 pub returns : goal.returns

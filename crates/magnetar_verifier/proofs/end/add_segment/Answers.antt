@@ -10,11 +10,10 @@ overflow_mul-a c = omega (arith, c.log2-a.ensures.0)
 
 pub returns : goal.returns
 returns c =
-    let l = c in
-    let x = l.args in
+    let x = c.args in
     c.add.ensures ∙ rw (
       c.mul.ensures,
       c.eq_number-e.ensures,
-      behind (2 * l.log2-a.result) l.log2-a.result x.low.now refl,
-      l.log2-a.ensures.0,
+      behind (2 * c.log2-a.result) c.log2-a.result x.low.now refl,
+      c.log2-a.ensures.0,
     )

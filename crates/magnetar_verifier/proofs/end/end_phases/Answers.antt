@@ -10,8 +10,7 @@ pub inner_rounds-run-requires : goal.inner_rounds-run-requires
 inner_rounds-run-requires c =
     let sizes : Cols c.args.m c.args.c =
         cols c.args.m c.args.c c.requires.columns c.requires.cols in
-    let b = c in
-    let g = b.requires in
+    let g = c.requires in
     let k = sizes in
     (g.logins, g.bin, g.fld, omega (arith, k.small), omega (arith, g.exact), omega (arith, g.drawn))
 
@@ -22,17 +21,13 @@ pub overflow_add-events-9 : goal.overflow_add-events-9
 overflow_add-events-9 c =
     let sizes : Cols c.args.m c.args.c =
         cols c.args.m c.args.c c.requires.columns c.requires.cols in
-    let b = c in
-    omega (arith, (sizes).small, b.requires.logins, b.requires.bin, b.requires.fld)
+    omega (arith, (sizes).small, c.requires.logins, c.requires.bin, c.requires.fld)
 
 pub returns : goal.returns
 returns c =
-    let n = c in
-    let y = c in
-    let r = c in
-    let x = r.args in
-    let q = r.inner_rounds-run.ensures in
+    let x = c.args in
+    let q = c.inner_rounds-run.ensures in
     end-done x.s x.b x.f x.c x.lens.now (elements x.proof.now) (elements x.draws.now) (value x.v) (value x.p)
-    r.inner_rounds-run.result.found n.refuse-g.result c.refuse.result (value r.inner_rounds-run.result.claim) y.inner_finish-y.result
-    c.identity_holds-z.result q.found q.claim (y.inner_finish-y.ensures ∙ rw y.get.ensures)
-    c.identity_holds-z.ensures n.refuse-g.ensures c.refuse.ensures
+    c.inner_rounds-run.result.found c.refuse-g.result c.refuse.result (value c.inner_rounds-run.result.claim) c.inner_finish-y.result
+    c.identity_holds-z.result q.found q.claim (c.inner_finish-y.ensures ∙ rw c.get.ensures)
+    c.identity_holds-z.ensures c.refuse-g.ensures c.refuse.ensures

@@ -14,20 +14,18 @@ pub segment_sum-a-requires : goal.segment_sum-a-requires
 segment_sum-a-requires c =
     let sizes : Cols c.args.m c.args.c =
         cols c.args.m c.args.c c.requires.columns c.requires.cols in
-    let b = c in record {
-      layout_fits = b.requires.layout;
+    record {
+      layout_fits = c.requires.layout;
       low_len = (c.piece.ensures.size ∙ rw (sizes).half, c.piece-2.ensures.size);
     }
 
 pub returns : goal.returns
 returns c =
-    let g = c in
-    let a = c in
     rw (
       c.is_identical.ensures,
-      a.segment_sum-a.ensures,
-      g.get.ensures,
+      c.segment_sum-a.ensures,
+      c.get.ensures,
       c.get-2.ensures,
-      a.piece-2.ensures.part,
-      a.piece.ensures.part,
+      c.piece-2.ensures.part,
+      c.piece.ensures.part,
     )

@@ -7,9 +7,8 @@ use Rattle.magnetar_verifier.proofs.found.round.Goals as goal
 
 pub returns : goal.returns
 returns c =
-    let s = c in
-    let x = s.args in
-    let e = c.check_round-next.ensures ∙ sym (check-sized x.n x.msg.now (value x.claim) (value x.r) s.requires) in record {
+    let x = c.args in
+    let e = c.check_round-next.ensures ∙ sym (check-sized x.n x.msg.now (value x.claim) (value x.r) c.requires) in record {
       found = c.refuse-g.ensures ∙ rw (ap (λ (o : RoundLeft). o.holds) e);
       claim = ap (λ (o : RoundLeft). o.claim) e;
     }

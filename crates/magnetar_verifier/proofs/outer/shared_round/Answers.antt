@@ -5,12 +5,10 @@ use Rattle.magnetar_verifier.proofs.outer.shared_round.Goals as goal
 
 pub returns : goal.returns
 returns c =
-    let two = c in
-    let one = c in
-    let x = one.args in
-    let p = one.piece.ensures.part in
-    let q = two.piece-2.ensures.part in record {
-      found = two.round-fld.ensures.found ∙ rw (one.round-bin.ensures.found, p, q, add-one x.j);
-      bin = one.round-bin.ensures.claim ∙ rw (p, one.get-r.ensures);
-      fld = two.round-fld.ensures.claim ∙ rw (q, one.get-r.ensures);
+    let x = c.args in
+    let p = c.piece.ensures.part in
+    let q = c.piece-2.ensures.part in record {
+      found = c.round-fld.ensures.found ∙ rw (c.round-bin.ensures.found, p, q, add-one x.j);
+      bin = c.round-bin.ensures.claim ∙ rw (p, c.get-r.ensures);
+      fld = c.round-fld.ensures.claim ∙ rw (q, c.get-r.ensures);
     }

@@ -5,7 +5,4 @@ use Rattle.magnetar_verifier.proofs.outer.terminal_holds.Goals as goal
 pub returns : goal.returns
 unfolding terminal_holds
 returns c =
-    let three = c in
-    let two = c in
-    let one = c in
-    rw (c.outer_finish.ensures, one.eq_of-e.ensures, one.get-a.ensures, two.get-b.ensures, three.get-c.ensures)
+    rw (c.outer_finish.ensures, c.eq_of-e.ensures, c.get-a.ensures, c.get-b.ensures, c.get-c.ensures)
