@@ -20,22 +20,14 @@ returns-then-z-ne0 c =
 
 pub drawn_words-d-requires : goal.drawn_words-d-requires
 drawn_words-d-requires c = let z = totals-of c.args.q c.args.rb c.args.rf (sym c.of_counts-z.ensures ∙ c.if-z-ne0.false) in (
-  omega (
-    arith,
-    c.log2-l.ensures.0,
-    logins-few z.counts,
-  ),
+  omega (arith, c.log2-l.ensures.0, logins-few z.counts),
   omega (arith, c.log2-b.ensures.0, bin_few z.counts),
   omega (arith, c.log2-f.ensures.0, fld_few z.counts),
 )
 
 pub sent_words-a-requires : goal.sent_words-a-requires
 sent_words-a-requires c = let z = totals-of c.args.q c.args.rb c.args.rf (sym c.of_counts-z.ensures ∙ c.if-z-ne0.false) in (
-  omega (
-    arith,
-    c.log2-l.ensures.0,
-    logins-few z.counts,
-  ),
+  omega (arith, c.log2-l.ensures.0, logins-few z.counts),
   omega (arith, c.log2-b.ensures.0, bin_few z.counts),
   omega
       (arith, c.log2-f.ensures.0, fld_few z.counts),

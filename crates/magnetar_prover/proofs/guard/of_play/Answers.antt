@@ -16,19 +16,11 @@ returns-then-z-ne0 c =
 
 pub drawn_words-d-requires : goal.drawn_words-d-requires
 drawn_words-d-requires c =
-    (
-      omega (arith, c.log2.ensures.1),
-      omega (arith, c.log2-2.ensures.1),
-      omega (arith, c.log2-3.ensures.1),
-    )
+    (omega (arith, c.log2.ensures.1), omega (arith, c.log2-2.ensures.1), omega (arith, c.log2-3.ensures.1))
 
 pub sent_words-a-requires : goal.sent_words-a-requires
 sent_words-a-requires c =
-    (
-      omega (arith, c.log2-4.ensures.1),
-      omega (arith, c.log2-5.ensures.1),
-      omega (arith, c.log2-6.ensures.1),
-    )
+    (omega (arith, c.log2-4.ensures.1), omega (arith, c.log2-5.ensures.1), omega (arith, c.log2-6.ensures.1))
 
 pub overflow_mul-c : goal.overflow_mul-c
 overflow_mul-c c =

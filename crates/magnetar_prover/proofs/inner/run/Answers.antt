@@ -15,20 +15,14 @@ slice_bounds-rounds-end-2 c = sym (length-take-le _ _ (omega (arith, c.lay_out.a
 
 pub rounds-u-requires : goal.rounds-u-requires
 rounds-u-requires c = let x = c.args in let p = c.requires in
-    let l : length (take (8 * x.w) c.lay_out.new.s) ≡ 8 * x.w = length-take-le (8 * x.w) c.lay_out.new.s (omega (
-      arith,
-      c.lay_out.auto.s,
-    )) in
+    let l : length (take (8 * x.w) c.lay_out.new.s) ≡ 8 * x.w = length-take-le (8 * x.w) c.lay_out.new.s (omega (arith, c.lay_out.auto.s)) in
     let q : 8 * x.w ≡ 4 * (2 * x.w) = omega arith in record {
       s_len = (l ∙ q, omega arith, omega arith, omega arith, omega arith);
       m_value = p.w_value.0;
     }
 
 pub offset_bounds-s-a : goal.offset_bounds-s-a
-offset_bounds-s-a c = omega (
-  arith,
-  c.requires.s_len.2,
-)
+offset_bounds-s-a c = omega (arith, c.requires.s_len.2)
 
 pub slice_bounds-send_segments-end : goal.slice_bounds-send_segments-end
 slice_bounds-send_segments-end c = let x = c.args in

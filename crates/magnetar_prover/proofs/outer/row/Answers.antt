@@ -22,12 +22,7 @@ message-requires c = let x = c.args in let p = c.requires in record {
 
 pub end_round-y-requires : goal.end_round-y-requires
 end_round-y-requires c = let p = c.requires in record {
-      s_len = (
-    c.message.auto.s ∙ p.s_len.0,
-    p.s_len.1,
-    p.s_len.2,
-    p.s_len.5,
-  );
+      s_len = (c.message.auto.s ∙ p.s_len.0, p.s_len.1, p.s_len.2, p.s_len.5);
       table = p.rows.table;
     }
 

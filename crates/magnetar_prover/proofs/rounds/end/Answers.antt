@@ -11,10 +11,7 @@ pub slice_bounds-terminals-end : goal.slice_bounds-terminals-end
 slice_bounds-terminals-end c = sym (length-take-le _ _ (omega (arith, c.requires.blocks)))
 
 pub returns : goal.returns
-returns c = end-left c.args.l c.args.b c.args.f c.args.wb c.args.wf (omega (
-  arith,
-  c.requires.bin_few,
-)) (omega (
+returns c = end-left c.args.l c.args.b c.args.f c.args.wb c.args.wf (omega (arith, c.requires.bin_few)) (omega (
   arith,
   c.requires.fld_few,
 )) (8 * c.args.l +

@@ -27,27 +27,15 @@ sent_words-a-requires c = let z = (outer-fits c.args.q
     c.args.rb c.args.rf c.args.proof.now c.args.draws.now
     c.args.s.now c.args.t (sym c.of_outer-z.ensures ∙ c.if-z-ne0.false)).totals in (
       omega (arith, c.log2-l.ensures.0, logins-few z.counts),
-      omega (
-        arith,
-        c.log2-b.ensures.0,
-        bin_few z.counts,
-      ),
+      omega (arith, c.log2-b.ensures.0, bin_few z.counts),
       omega (arith, c.log2-f.ensures.0, fld_few z.counts),
     )
 
 pub drawn_words-d-requires : goal.drawn_words-d-requires
 drawn_words-d-requires c = let z = (outer-fits c.args.q c.args.rb c.args.rf c.args.proof.now c.args.draws.now c.args.s.now c.args.t (sym c.of_outer-z.ensures ∙ c.if-z-ne0.false)).totals in (
-  omega (
-    arith,
-    c.log2-l.ensures.0,
-    logins-few z.counts,
-  ),
+  omega (arith, c.log2-l.ensures.0, logins-few z.counts),
   omega (arith, c.log2-b.ensures.0, bin_few z.counts),
-  omega (
-    arith,
-    c.log2-f.ensures.0,
-    fld_few z.counts,
-  ),
+  omega (arith, c.log2-f.ensures.0, fld_few z.counts),
 )
 
 pub block_words-e-requires : goal.block_words-e-requires
@@ -102,11 +90,7 @@ slice_bounds-run-end-4 c = let f = outer-fits c.args.q c.args.rb c.args.rf c.arg
 
 pub slice_bounds-run-end-5 : goal.slice_bounds-run-end-5
 slice_bounds-run-end-5 c = let f = outer-fits c.args.q c.args.rb c.args.rf c.args.proof.now c.args.draws.now
-    c.args.s.now c.args.t (sym c.of_outer-z.ensures ∙ c.if-z-ne0.false) in (omega (
-      arith,
-      c.block_words-e.ensures,
-      f.scratch,
-    ))
+    c.args.s.now c.args.t (sym c.of_outer-z.ensures ∙ c.if-z-ne0.false) in (omega (arith, c.block_words-e.ensures, f.scratch))
 
 pub slice_bounds-run-end-6 : goal.slice_bounds-run-end-6
 slice_bounds-run-end-6 c = let f = outer-fits c.args.q c.args.rb c.args.rf c.args.proof.now c.args.draws.now c.args.s.now c.args.t (sym c.of_outer-z.ensures ∙ c.if-z-ne0.false) in sym (length-take-le _ _ (omega (
@@ -132,11 +116,7 @@ run-u-requires c = let f = outer-fits c.args.q c.args.rb c.args.rf c.args.proof.
       c.log2-b.ensures.0,
       c.log2-f.ensures.0,
       f.drawn,
-    )) ∙ c.drawn_words-d.ensures) (length-take-le _ _ (omega (
-      arith,
-      c.block_words-e.ensures,
-      f.scratch,
-    )) ∙ c.block_words-e.ensures) f.totals
+    )) ∙ c.drawn_words-d.ensures) (length-take-le _ _ (omega (arith, c.block_words-e.ensures, f.scratch)) ∙ c.block_words-e.ensures) f.totals
 
 pub returns : goal.returns
 returns c = let f = outer-fits c.args.q c.args.rb c.args.rf c.args.proof.now c.args.draws.now c.args.s.now c.args.t (sym c.of_outer-z.ensures ∙ c.if-z-ne0.false) in let e : ◌≡◌ {A = ℕ} 0 (outer_rounds_refusal c.args.q c.args.rb c.args.rf c.args.proof.now c.args.draws.now c.args.s.now c.args.t) = sym
@@ -183,9 +163,5 @@ returns c = let f = outer-fits c.args.q c.args.rb c.args.rf c.args.proof.now c.a
             f.drawn,
           )) (λ i. omega (arith, c.type_inv.draws i)) ∙ (ap (λ (p :
               Steps). overlaid (words p.run_state.draws) c.args.draws.now) q ∙ done _ c.args.draws.now e refl);
-      scratch = rw (
-            c.run-u.ensures.cleared,
-            l,
-            c.block_words-e.ensures,
-          ) (done _ c.args.s.now e refl);
+      scratch = rw (c.run-u.ensures.cleared, l, c.block_words-e.ensures) (done _ c.args.s.now e refl);
     }

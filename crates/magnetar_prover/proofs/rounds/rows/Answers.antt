@@ -17,17 +17,9 @@ slice_bounds-rows-end-2 c = sym (length-take-le _ _ (omega (arith, c.requires.bl
 pub rows-u-requires : goal.rows-u-requires
 rows-u-requires c = let p = c.requires in record {
       s_len = (
-    length-take-le _ _ (omega (
-      arith,
-      p.blocks,
-    )),
+    length-take-le _ _ (omega (arith, p.blocks)),
     p.bin_most,
-    omega (
-      arith,
-      c.power_words-nb.ensures,
-      p.bin_words,
-      pow_mono {i = c.args.b} {j = c.args.l + c.args.b} (omega arith),
-    ),
+    omega (arith, c.power_words-nb.ensures, p.bin_words, pow_mono {i = c.args.b} {j = c.args.l + c.args.b} (omega arith)),
     omega (arith, p.bin_few),
     omega (arith, p.bin_few),
     omega (arith, p.bin_few, p.fld_few),
@@ -47,26 +39,13 @@ rows-v-requires c = let p = c.requires in let one : length c.rows-u.new.s ≡ 4 
     ap length
         (lent-behind c.args.s.now c.rows-u.new.s (4 * c.args.wb) (4 * c.args.wf) p.blocks one) ∙ rest-length c.args.s.now c.rows-u.new.s (4 * c.args.wb) (4 * c.args.wf) p.blocks one,
     p.fld_most,
-    omega (
-      arith,
-      c.power_words-nf.ensures,
-      p.fld_words,
-      pow_mono {i = c.args.f} {j = c.args.l + c.args.f} (omega arith),
-    ),
+    omega (arith, c.power_words-nf.ensures, p.fld_words, pow_mono {i = c.args.f} {j = c.args.l + c.args.f} (omega arith)),
     omega (arith, p.fld_few),
     omega (arith, p.bin_few),
     omega (arith, p.bin_few, p.fld_few),
     omega arith,
-    omega (
-      arith,
-      p.proof,
-      c.rows-u.auto.proof,
-    ),
-    omega (
-      arith,
-      p.draws,
-      c.rows-u.auto.draws,
-    ),
+    omega (arith, p.proof, c.rows-u.auto.proof),
+    omega (arith, p.draws, c.rows-u.auto.draws),
   );
       n_value = c.power_words-nf.ensures;
     }
@@ -77,10 +56,7 @@ returns c = let p = c.requires in let one : length c.rows-u.new.s ≡ 4 * c.args
   c.requires.blocks,
 )) in let two : length c.rows-v.new.s ≡ 4 * c.args.wf = c.rows-v.auto.s ∙ (ap length (lent-behind c.args.s.now c.rows-u.new.s (4 * c.args.wb) (4 * c.args.wf) p.blocks
     one) ∙ rest-length c.args.s.now c.rows-u.new.s (4 * c.args.wb) (4 * c.args.wf) p.blocks one) in rows_left
-    c.args.l c.args.b c.args.f c.args.wb c.args.wf (omega (
-      arith,
-      c.requires.bin_few,
-    )) (omega (
+    c.args.l c.args.b c.args.f c.args.wb c.args.wf (omega (arith, c.requires.bin_few)) (omega (
       arith,
       c.requires.fld_few,
     )) _ _ (value c.args.kb) (value c.args.kf) _ _ c.args.t c.rows-u.result.transcript c.rows-v.result.transcript c.args.proof.now c.args.draws.now c.args.s.now c.rows-u.new.proof c.rows-u.new.draws c.rows-u.new.s c.rows-v.new.proof c.rows-v.new.draws c.rows-v.new.s c.power_words-nb.ensures c.power_words-nf.ensures p.blocks one two (rw elements-length (omega (arith, p.draws))) c.rows-u.ensures c.rows-v.ensures

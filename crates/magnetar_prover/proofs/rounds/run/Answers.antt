@@ -20,10 +20,7 @@ end-r-requires c = blocks-same (c.rows-v.auto.proof ∙ c.first-u.auto.proof) (c
 
 pub returns : goal.returns
 returns c = record {
-      run = all_left c.args.l c.args.b c.args.f c.args.wb c.args.wf (omega (
-    arith,
-    c.requires.bin_few,
-  )) (omega (
+      run = all_left c.args.l c.args.b c.args.f c.args.wb c.args.wf (omega (arith, c.requires.bin_few)) (omega (
     arith,
     c.requires.fld_few,
   )) _ (8 * c.args.l + 4 * c.args.b + 4 * c.args.f) (c.args.l + c.args.b + (c.args.l

@@ -5,11 +5,7 @@ use borrow.Author.Rules.{rules}
 use Rattle.magnetar_prover.proofs.schedule_run.events_to.Goals as goal
 
 pub outer-a-requires : goal.outer-a-requires
-outer-a-requires c = (
-  omega (arith, c.log2.ensures.1),
-  omega (arith, c.log2-2.ensures.1),
-  omega (arith, c.log2-3.ensures.1),
-)
+outer-a-requires c = (omega (arith, c.log2.ensures.1), omega (arith, c.log2-2.ensures.1), omega (arith, c.log2-3.ensures.1))
 
 pub returns : goal.returns
 returns c =

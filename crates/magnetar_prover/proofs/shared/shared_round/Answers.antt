@@ -16,15 +16,7 @@ use Rattle.magnetar_prover.proofs.shared.shared_round.Goals as goal
 
 pub send_messages-requires : goal.send_messages-requires
 send_messages-requires c = let p = c.requires in record {
-      s_len = (
-    p.s_len.0,
-    p.s_len.1,
-    p.s_len.2,
-    p.s_len.3,
-    p.s_len.4,
-    p.s_len.5,
-    p.s_len.6,
-  );
+      s_len = (p.s_len.0, p.s_len.1, p.s_len.2, p.s_len.3, p.s_len.4, p.s_len.5, p.s_len.6);
       table = (high-table p.shared.0, high-table p.shared.1);
     }
 
@@ -38,22 +30,11 @@ pub offset_bounds-proof-a : goal.offset_bounds-proof-a
 offset_bounds-proof-a c = omega (arith, c.requires.s_len.5)
 
 pub slice_bounds-shared_round-end : goal.slice_bounds-shared_round-end
-slice_bounds-shared_round-end c = omega (
-  arith,
-  c.requires.s_len.6,
-  c.send_messages.auto.proof,
-)
+slice_bounds-shared_round-end c = omega (arith, c.requires.s_len.6, c.send_messages.auto.proof)
 
 pub end_both-requires : goal.end_both-requires
 end_both-requires c = let p = c.requires in record {
-      s_len = (
-    c.send_messages.auto.s ∙ p.s_len.0,
-    p.s_len.1,
-    p.s_len.2,
-    p.s_len.3,
-    p.s_len.4,
-    p.s_len.7,
-  );
+      s_len = (c.send_messages.auto.s ∙ p.s_len.0, p.s_len.1, p.s_len.2, p.s_len.3, p.s_len.4, p.s_len.7);
       table = (
     high-table
         p.shared.0,

@@ -46,11 +46,7 @@ shared_round-r-requires c = let x = c.args in let p = c.requires.s_len in let l 
     }
 
 pub overflow_add-i : goal.overflow_add-i
-overflow_add-i c = omega (
-  arith,
-  c.requires.s_len.5,
-  c.loop-i.invariant.0,
-)
+overflow_add-i c = omega (arith, c.requires.s_len.5, c.loop-i.invariant.0)
 
 pub loop-i-preserved : goal.loop-i-preserved
 loop-i-preserved c = let l = c.loop-i in
