@@ -1,6 +1,6 @@
 -- The combined table over records, call by call: what its walks leave is what the core's definitions say of the systems' matrices.
 -- Assumes nothing.
-use Rattle.core.specs.Prelude.{◌≡◌, ℕ, max, List, [], length, get_or}
+use Rattle.std.specs.Prelude.{◌≡◌, ℕ, max, List, [], length, get_or}
 use mathlib.Core.Path.{ap, ◌∙◌}
 use Rattle.magnetar_field.specs.Words.{elements}
 use Rattle.magnetar_matrix.specs.Matrix.{Entry}

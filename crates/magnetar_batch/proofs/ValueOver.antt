@@ -1,6 +1,6 @@
 -- The combined table's value over records, call by call: what its walks leave is what the core's definitions say of the systems' matrices.
 -- Assumes nothing.
-use Rattle.core.specs.Prelude.{◌≡◌, ℕ, ◌+◌, min, max, List, [], length}
+use Rattle.std.specs.Prelude.{◌≡◌, ℕ, ◌+◌, min, max, List, [], length}
 use mathlib.Core.Path.{ap, ◌∙◌}
 use Rattle.magnetar_field.specs.Gf128.{◌⊕◌}
 use Rattle.magnetar_matrix.specs.Matrix.{Entry}

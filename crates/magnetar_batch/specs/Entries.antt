@@ -2,7 +2,7 @@
 -- Source: document 01, "Matrices and layout", "The run" (scratch words) and "Who can be turned back"; the Rust's `fold_packed_w` and
 -- `build_m_combo`.
 -- Assumes nothing.
-use Rattle.core.specs.Prelude.{ℕ, ◌+◌, ◌*◌, List, ◌++◌, length, drop, replicate}
+use Rattle.std.specs.Prelude.{ℕ, ◌+◌, ◌*◌, List, ◌++◌, length, drop, replicate}
 use Rattle.magnetar_field.specs.Refusal.{unless_refused}
 use Rattle.magnetar_field.specs.Sizes.{log₂}
 use Rattle.magnetar_field.specs.Words.{elements, words}

@@ -1,7 +1,7 @@
 -- What the folds add to a table: for a login's bits its element at each column whose bit is set, for its public columns its element times
 -- the public half. Only the contracts of private functions cite these definitions.
 -- Assumes nothing.
-use Rattle.core.specs.Prelude.{ℕ, ◌-◌, ◌*◌, ◌%◌, ◌^◌, cond, List, ◌∷◌, nat_le, nat_lt, slice_index, slice_index_or}
+use Rattle.std.specs.Prelude.{ℕ, ◌-◌, ◌*◌, ◌%◌, ◌^◌, cond, List, ◌∷◌, nat_le, nat_lt, slice_index, slice_index_or}
 use Rattle.magnetar_field.specs.Gf128.{◌⊗◌}
 use Rattle.magnetar_field.specs.Words.{elements}
 use Rattle.magnetar_matrix.specs.Sum.{sum_below}

@@ -2,7 +2,7 @@
 -- the words of its output at exit; or the packed flag and these words. Lent outputs and scratch hold 9 in each word at entry.
 -- Source: document 01, "Marked rows".
 -- Assumes nothing.
-use Rattle.core.specs.Prelude.{◌≡◌, ℕ, ◌+◌, ◌^◌, false, List, [], ◌∷◌, map, replicate}
+use Rattle.std.specs.Prelude.{◌≡◌, ℕ, ◌+◌, ◌^◌, false, List, [], ◌∷◌, map, replicate}
 use Rattle.magnetar_field.specs.Gf128.{◌⊗◌}
 use Rattle.magnetar_field.specs.Words.{words}
 use Rattle.magnetar_multilinear.specs.Entries.{eq_refusal, eq_out}

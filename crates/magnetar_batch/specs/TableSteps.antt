@@ -2,7 +2,7 @@
 -- private functions, and of those that the run calls, cite these definitions.
 -- Source: the Rust's `build_m_combo`, entry by entry.
 -- Assumes nothing.
-use Rattle.core.specs.Prelude.{ℕ, ◌+◌, ◌*◌, min, max, cond, List, ◌++◌, length, take, drop, replicate, nat_le, slice_index}
+use Rattle.std.specs.Prelude.{ℕ, ◌+◌, ◌*◌, min, max, cond, List, ◌++◌, length, take, drop, replicate, nat_le, slice_index}
 use Rattle.magnetar_field.specs.Sizes.{log₂}
 use Rattle.magnetar_field.specs.Words.{elements, overlaid}
 use Rattle.magnetar_multilinear.specs.Entries.{eq_out}

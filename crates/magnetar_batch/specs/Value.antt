@@ -1,7 +1,7 @@
 -- The combined table at one column point: the outcome of `eval_m_combo`.
 -- Source: document 02, U8 (the verifier needs the combined table only at one point); document 01, "Who can be turned back".
 -- Assumes nothing.
-use Rattle.core.specs.Prelude.{ℕ, true, List, ◌++◌, length, drop, replicate}
+use Rattle.std.specs.Prelude.{ℕ, true, List, ◌++◌, length, drop, replicate}
 use Rattle.magnetar_field.specs.Gf128.{value}
 use Rattle.magnetar_field.specs.Refusal.{unless_refused}
 use Rattle.magnetar_field.specs.Words.{elements}

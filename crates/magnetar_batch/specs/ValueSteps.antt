@@ -1,7 +1,7 @@
 -- How the combined table's value at a column point is made, call by call: what the loops over number slices and the walks over records leave
 -- alike. Only the contracts of private functions cite these definitions.
 -- Assumes nothing.
-use Rattle.core.specs.Prelude.{ℕ, ◌+◌, ◌*◌, min, max, Bool, cond, ◌&&◌, List, length, take, nat_le, slice_index_or}
+use Rattle.std.specs.Prelude.{ℕ, ◌+◌, ◌*◌, min, max, Bool, cond, ◌&&◌, List, length, take, nat_le, slice_index_or}
 use Rattle.magnetar_field.specs.Gf128.{◌⊕◌, ◌⊗◌}
 use Rattle.magnetar_field.specs.Words.{elements}
 use Rattle.magnetar_multilinear.specs.Multilinear.{mle}

@@ -1,5 +1,5 @@
 // The six matrices of both systems combined into one table of columns.
-ghost use Rattle.core.specs.Prelude.{◌≡◌, ◌≤◌, [], take, drop, slice_index};
+ghost use Rattle.std.specs.Prelude.{◌≡◌, ◌≤◌, [], take, drop, slice_index};
 ghost use Rattle.magnetar_field.specs.Words.{elements};
 ghost use Rattle.magnetar_matrix.specs.Lent.{entries_of};
 ghost use Rattle.magnetar_relation.specs.Rules.{rules, relation_of, system_at};

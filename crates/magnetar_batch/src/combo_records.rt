@@ -1,5 +1,5 @@
 // The combined table over one slice of entry records (`build_m_combo`).
-ghost use Rattle.core.specs.Prelude.{◌≡◌, ◌*◌, ◌&&◌, [], take, if◌then◌else◌, nat_eq, nat_le, nat_lt};
+ghost use Rattle.std.specs.Prelude.{◌≡◌, ◌*◌, ◌&&◌, [], take, if◌then◌else◌, nat_eq, nat_le, nat_lt};
 ghost use Rattle.magnetar_field.specs.Words.{overlaid};
 ghost use Rattle.magnetar_relation.specs.Rules.{relation_of, rules_over};
 ghost use Rattle.magnetar_relation.specs.Steps.{cleared_to, column_added};

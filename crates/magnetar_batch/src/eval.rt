@@ -1,6 +1,6 @@
 // The combined table at one column point, without the table: each matrix times the eq table of the column point, row by row, then taken at
 // its row point.
-ghost use Rattle.core.specs.Prelude.{◌≡◌, [], take, drop};
+ghost use Rattle.std.specs.Prelude.{◌≡◌, [], take, drop};
 ghost use Rattle.magnetar_field.specs.Gf128.{value};
 ghost use Rattle.magnetar_matrix.specs.Lent.{entries_of};
 ghost use Rattle.magnetar_relation.specs.Rules.{rules, relation_of, system_at};

@@ -1,5 +1,5 @@
 // The combined table at one column point over one slice of entry records (`eval_m_combo`).
-ghost use Rattle.core.specs.Prelude.{◌≡◌, ◌&&◌, [], if◌then◌else◌, nat_eq, nat_le, nat_lt, slice_index};
+ghost use Rattle.std.specs.Prelude.{◌≡◌, ◌&&◌, [], if◌then◌else◌, nat_eq, nat_le, nat_lt, slice_index};
 ghost use Rattle.magnetar_field.specs.Gf128.{value};
 ghost use Rattle.magnetar_field.specs.Words.{elements};
 ghost use Rattle.magnetar_records.specs.Records.{entry_of, entries_of_records};

@@ -1,5 +1,5 @@
 // One slice for a table and, behind it, an eq table.
-ghost use Rattle.core.specs.Prelude.{◌≡◌, ◌+◌, ◌-◌, ◌%◌, ◌≤◌, ◌++◌, length, take, drop, replicate};
+ghost use Rattle.std.specs.Prelude.{◌≡◌, ◌+◌, ◌-◌, ◌%◌, ◌≤◌, ◌++◌, length, take, drop, replicate};
 ghost use Rattle.magnetar_field.specs.Words.{elements, words};
 ghost use Rattle.magnetar_multilinear.specs.EqTable.{eq_table};
 ghost use Rattle.magnetar_multilinear.specs.Entries.{table_words};

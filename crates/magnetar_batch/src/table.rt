@@ -1,6 +1,6 @@
 // What the combined table is made of, over number slices and over records alike: the eq table behind it, its room cleared, its arguments as
 // arrays, and its refusals by numbers. Each is total: it leaves words that are too few as they are.
-ghost use Rattle.core.specs.Prelude.{◌≡◌, ◌+◌, ◌*◌, max, take, nat_lt, slice_index};
+ghost use Rattle.std.specs.Prelude.{◌≡◌, ◌+◌, ◌*◌, max, take, nat_lt, slice_index};
 ghost use Rattle.magnetar_field.specs.Gf128.{value};
 ghost use Rattle.magnetar_field.specs.Words.{elements, overlaid};
 ghost use Rattle.magnetar_layout.specs.Tests.{first_refusal};

@@ -1,6 +1,6 @@
 // What the combined table's value at one column point is made of, over number slices and over records alike: the eq table of the column
 // point, a table in front taken at its row point by binding in place, three values weighed by their alphas, and the refusals by numbers.
-ghost use Rattle.core.specs.Prelude.{◌≡◌, ◌+◌, ◌*◌, ◌^◌, ◌≤◌, min, ◌++◌, length, take, drop, replicate, slice_index};
+ghost use Rattle.std.specs.Prelude.{◌≡◌, ◌+◌, ◌*◌, ◌^◌, ◌≤◌, min, ◌++◌, length, take, drop, replicate, slice_index};
 ghost use Rattle.magnetar_field.specs.Gf128.{value};
 ghost use Rattle.magnetar_field.specs.Words.{elements};
 ghost use Rattle.magnetar_layout.specs.Tests.{first_refusal};

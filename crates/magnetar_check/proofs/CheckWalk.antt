@@ -1,6 +1,6 @@
 -- The row check over records, call by call: what its walks leave is what the core's definitions say of the system's matrices.
 -- Assumes nothing.
-use Rattle.core.specs.Prelude.{◌≡◌, ℕ, zero, suc, ◌*◌, max, Bool, true, false, cond, eqb, List, [], length}
+use Rattle.std.specs.Prelude.{◌≡◌, ℕ, zero, suc, ◌*◌, max, Bool, true, false, cond, eqb, List, [], length}
 use mathlib.Core.Path.{refl, ap, ◌∙◌}
 use Rattle.magnetar_matrix.specs.Matrix.{Entry, System}
 use Rattle.magnetar_matrix.specs.Batch.{Relation}

@@ -2,7 +2,7 @@
 -- Source: document 01, "Matrices and layout" (added: a plain row check), "The run" (scratch words) and "Who can be turned back";
 -- document 02, U3 (stray bits; 8 to 10 after 7 and before 15).
 -- Assumes nothing.
-use Rattle.core.specs.Prelude.{ℕ, ◌*◌, ◌/◌, max, List, ◌++◌, length, drop, replicate}
+use Rattle.std.specs.Prelude.{ℕ, ◌*◌, ◌/◌, max, List, ◌++◌, length, drop, replicate}
 use Rattle.magnetar_field.specs.Refusal.{unless_refused}
 use Rattle.magnetar_matrix.specs.Packed.{unpacked, public_of}
 use Rattle.magnetar_matrix.specs.RowCheck.{Verdict, row_verdict}

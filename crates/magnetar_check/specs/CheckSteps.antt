@@ -2,7 +2,7 @@
 -- and those of the steps that both forms call, cite these definitions.
 -- Source: document 01, "Matrices and layout" (added: a plain row check), login by login.
 -- Assumes nothing.
-use Rattle.core.specs.Prelude.{ℕ, zero, suc, ◌*◌, min, max, cond, List, length, take, ◌==◌, nat_le, nat_lt}
+use Rattle.std.specs.Prelude.{ℕ, zero, suc, ◌*◌, min, max, cond, List, length, take, ◌==◌, nat_le, nat_lt}
 use Rattle.magnetar_field.specs.Words.{elements}
 use Rattle.magnetar_layout.specs.Tests.{most_rows}
 use Rattle.magnetar_matrix.specs.Matrix.{Matrix, System, Entry, share}

@@ -1,7 +1,7 @@
 -- When the row check answers good, and when it names a stray bit. Each statement is the type of the law that it names, in proofs/Exactly.
 -- Source: document 02, U3; document 01, "Matrices and layout" (good).
 -- Assumes nothing.
-use Rattle.core.specs.Prelude.{◌≡◌, ℕ, ◌/◌, List, length}
+use Rattle.std.specs.Prelude.{◌≡◌, ℕ, ◌/◌, List, length}
 use Rattle.magnetar_matrix.specs.Batch.{Batch, PublicColumns, Good}
 use Rattle.magnetar_matrix.specs.Packed.{unpacked, public_of}
 use Rattle.magnetar_matrix.specs.RowCheck.{FirstStray}

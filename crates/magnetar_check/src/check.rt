@@ -1,6 +1,6 @@
 // The plain row check: stray bits, then the rows of both systems, login after login. The steps are total, and those over records call them
 // too.
-ghost use Rattle.core.specs.Prelude.{◌≡◌, ◌*◌, ◌/◌, max, [], take, drop, if◌then◌else◌, ◌==◌, nat_eq};
+ghost use Rattle.std.specs.Prelude.{◌≡◌, ◌*◌, ◌/◌, max, [], take, drop, if◌then◌else◌, ◌==◌, nat_eq};
 ghost use Rattle.magnetar_field.specs.Gf128.{value};
 ghost use Rattle.magnetar_field.specs.Words.{elements};
 ghost use Rattle.magnetar_layout.specs.Tests.{first_refusal};

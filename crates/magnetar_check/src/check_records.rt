@@ -1,5 +1,5 @@
 // The plain row check over one slice of entry records (`row_check`).
-ghost use Rattle.core.specs.Prelude.{◌≡◌, ◌&&◌, [], if◌then◌else◌, nat_eq, nat_le, nat_lt};
+ghost use Rattle.std.specs.Prelude.{◌≡◌, ◌&&◌, [], if◌then◌else◌, nat_eq, nat_le, nat_lt};
 ghost use Rattle.magnetar_field.specs.Words.{elements};
 ghost use Rattle.magnetar_relation.specs.Rules.{relation_of, rules_over};
 ghost use Rattle.magnetar_relation.specs.Steps.{login_z};

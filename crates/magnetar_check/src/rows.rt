@@ -1,5 +1,5 @@
 // The first row that does not hold.
-ghost use Rattle.core.specs.Prelude.{◌≡◌};
+ghost use Rattle.std.specs.Prelude.{◌≡◌};
 ghost use Rattle.magnetar_field.specs.Words.{elements};
 ghost use Rattle.magnetar_matrix.specs.RowCheck.{first_not, holds_at};
 

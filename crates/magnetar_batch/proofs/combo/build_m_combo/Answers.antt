@@ -1,4 +1,4 @@
-use Rattle.core.specs.Prelude.{[]}
+use Rattle.std.specs.Prelude.{[]}
 use Rattle.magnetar_relation.specs.Rules.{Rules, rules as lent}
 use Rattle.magnetar_batch.proofs.ComboEnds.{combo-by, combo-back, combo-called}
 use Rattle.magnetar_batch.proofs.combo.build_m_combo.Goals as goal

@@ -1,4 +1,4 @@
-use Rattle.core.specs.Prelude.{◌≡◌, ◌-◌, length, drop}
+use Rattle.std.specs.Prelude.{◌≡◌, ◌-◌, length, drop}
 use Rattle.magnetar_relation.specs.EntryWalks.{fold_entries_within}
 use Rattle.magnetar_relation.specs.Steps.{column_added}
 use Rattle.magnetar_records.specs.Records.{entries_of_records}

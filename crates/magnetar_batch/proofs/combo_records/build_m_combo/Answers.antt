@@ -1,4 +1,4 @@
-use Rattle.core.specs.Prelude.{[]}
+use Rattle.std.specs.Prelude.{[]}
 use Rattle.magnetar_relation.specs.Rules.{Rules, rules_over}
 use Rattle.magnetar_records.specs.Records.{entries_of_records}
 use Rattle.magnetar_batch.proofs.ComboEnds.{combo-by, combo-ends}

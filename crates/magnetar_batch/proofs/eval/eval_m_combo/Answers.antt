@@ -1,4 +1,4 @@
-use Rattle.core.specs.Prelude.{[], length}
+use Rattle.std.specs.Prelude.{[], length}
 use Rattle.magnetar_field.specs.Gf128.{value}
 use Rattle.magnetar_relation.specs.Rules.{Rules, rules as lent}
 use Rattle.magnetar_batch.proofs.ValueEnds.{value-by, value-back, value-done}

@@ -1,4 +1,4 @@
-use Rattle.core.specs.Prelude.{ℕ, length, [], ◌∷◌, true, slice_index}
+use Rattle.std.specs.Prelude.{ℕ, length, [], ◌∷◌, true, slice_index}
 use mathlib.Core.Path.{sym, ap, ◌∙◌}
 use Rattle.magnetar_field.specs.Words.{elements}
 use Rattle.magnetar_layout.specs.Tests.{first_refusal}

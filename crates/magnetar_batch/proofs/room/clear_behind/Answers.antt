@@ -1,4 +1,4 @@
-use Rattle.core.specs.Prelude.{◌≡◌, ℕ, ◌-◌, List, ◌++◌, length, take, replicate}
+use Rattle.std.specs.Prelude.{◌≡◌, ℕ, ◌-◌, List, ◌++◌, length, take, replicate}
 use mathlib.Core.Path.{◌∙◌, ap}
 use lib.ListN.{length-drop}
 use Rattle.magnetar_batch.proofs.Rooms.{back-put, back-part}

@@ -1,5 +1,5 @@
 use mathlib.Core.Path.{sym}
-use Rattle.core.specs.Prelude.{◌+◌, ◌*◌}
+use Rattle.std.specs.Prelude.{◌+◌, ◌*◌}
 use native.Mathlib.Omega.{arith}
 use borrow.Author.Tests.{lt-ltb}
 use Rattle.magnetar_batch.proofs.ComboEnds.{half_over}

@@ -1,5 +1,5 @@
 use mathlib.Core.Path.{ap, ◌∙◌}
-use Rattle.core.specs.Prelude.{ℕ, ◌*◌}
+use Rattle.std.specs.Prelude.{ℕ, ◌*◌}
 use native.Mathlib.Omega.{arith}
 use Rattle.magnetar_relation.specs.Steps.{cleared_to}
 use Rattle.magnetar_relation.proofs.StepLaws.{cleared-none}

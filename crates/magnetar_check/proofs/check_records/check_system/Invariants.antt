@@ -1,4 +1,4 @@
-use Rattle.core.specs.Prelude.{◌≡◌, ◌-◌, ◌≤◌}
+use Rattle.std.specs.Prelude.{◌≡◌, ◌-◌, ◌≤◌}
 use Rattle.magnetar_relation.specs.Ends.{system_in}
 use Rattle.magnetar_records.specs.Records.{entries_of_records}
 use Rattle.magnetar_check.specs.CheckSteps.{from, system_done}
