@@ -13,7 +13,7 @@ use Rattle.magnetar_matrix.specs.Matrix.{System}
 use Rattle.magnetar_matrix.specs.Batch.{Relation, assignment}
 use Rattle.magnetar_matrix.specs.Packed.{unpacked, public_of, z_of}
 use Rattle.magnetar_matrix.specs.RowCheck.{first_not, stray_column, stray_login, failing_row, failing_login, systems_verdict, row_verdict}
-use Rattle.magnetar_matrix.specs.RowCheck.Verdict.{stray, bin, fld}
+use Rattle.magnetar_matrix.specs.RowCheck.Verdict.{stray}
 use Rattle.magnetar_matrix.proofs.FirstRow.{first-ext, Below}
 use Rattle.magnetar_matrix.proofs.Verdicts.{first-le, first-before, first-not}
 use Rattle.magnetar_matrix.proofs.PublicParts.{public-of}

@@ -18,7 +18,7 @@ use Rattle.magnetar_matrix.specs.RowCheck.{first_not, failing_row, holds_at}
 use Rattle.magnetar_matrix.proofs.FirstRow.{first-ext, Below}
 use Rattle.magnetar_matrix.proofs.Verdicts.{first-le}
 use Rattle.magnetar_matrix.proofs.TableLaws.{elements-words}
-use Rattle.magnetar_relation.specs.Steps.{login_z, cleared_to, added_all, behind}
+use Rattle.magnetar_relation.specs.Steps.{login_z, cleared_to, added_all}
 use Rattle.magnetar_relation.proofs.TableWords.{cleared-added}
 use Rattle.magnetar_check.specs.CheckSteps.{product_behind, twice_of, three_in, row_in, Judged, login_done, system_done}
 use Rattle.magnetar_check.proofs.RowWalk.{behind-at, product_is, failing-here, failing-none, done-some, done_none}

@@ -1,6 +1,5 @@
 use native.Mathlib.Omega.{arith}
 use Rattle.magnetar_relation.proofs.StepLaws.{behind-some, behind-none}
-use borrow.Author.Rules.{rules}
 use Rattle.magnetar_check.proofs.check.add_behind.Goals as goal
 
 pub returns-then-m-s : goal.returns-then-m-s

@@ -1,5 +1,4 @@
 use Rattle.magnetar_relation.specs.Steps.{login_z}
-use borrow.Author.Rules.{rules}
 use Rattle.magnetar_check.proofs.check.add_share.Goals as goal
 
 pub returns : goal.returns

@@ -1,7 +1,6 @@
 use Rattle.magnetar_matrix.specs.Matrix.{share}
 use Rattle.magnetar_field.proofs.Product.{⊗-comm}
 use Rattle.magnetar_check.specs.CheckSteps.{share_added}
-use borrow.Author.Rules.{rules}
 use Rattle.magnetar_check.proofs.check.add_share_of.Goals as goal
 
 pub returns : goal.returns

@@ -1,4 +1,4 @@
-use Rattle.std.specs.Prelude.{◌≡◌, ℕ, ◌+◌, ◌-◌, min, List, length}
+use Rattle.std.specs.Prelude.{ℕ, ◌+◌, min, List}
 use mathlib.Core.Path.{refl, ap, ◌∙◌}
 use native.Mathlib.Omega.{arith}
 use Rattle.magnetar_field.specs.Words.{elements}
@@ -6,10 +6,9 @@ use Rattle.magnetar_matrix.specs.Matrix.{Entry}
 use Rattle.magnetar_matrix.specs.Lent.{entries_of}
 use Rattle.magnetar_matrix.specs.Packed.{z_of}
 use Rattle.magnetar_relation.specs.EntryWalks.{fold_entries}
-use Rattle.magnetar_relation.proofs.ToldLaws.{range_of, range-more, range-end}
+use Rattle.magnetar_relation.proofs.ToldLaws.{range-more, range-end}
 use Rattle.magnetar_relation.proofs.RangeLaws.{range-is}
 use Rattle.magnetar_check.specs.CheckSteps.{share_added}
-use borrow.Author.Rules.{rules}
 use Rattle.magnetar_check.proofs.check.add_shares.Goals as goal
 
 pub loop-i-init : goal.loop-i-init

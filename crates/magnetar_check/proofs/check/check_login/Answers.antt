@@ -2,7 +2,6 @@ use Rattle.magnetar_field.specs.Words.{elements}
 use Rattle.magnetar_matrix.specs.Lent.{entries_of}
 use Rattle.magnetar_matrix.specs.Packed.{z_of}
 use Rattle.magnetar_check.proofs.RowWalk.{login-cut}
-use borrow.Author.Rules.{rules}
 use Rattle.magnetar_check.proofs.check.check_login.Goals as goal
 
 pub returns : goal.returns

@@ -1,12 +1,7 @@
-use Rattle.std.specs.Prelude.{◌≡◌, ℕ, ◌-◌, ◌≤◌, length}
-use mathlib.Core.Path.{refl, ap, ◌∙◌}
-use native.Mathlib.Omega.{arith}
-use Rattle.magnetar_matrix.specs.Matrix.{System}
+use Rattle.std.specs.Prelude.{◌≡◌, ◌-◌, ◌≤◌, length}
 use Rattle.magnetar_matrix.specs.Lent.{entries_of}
 use Rattle.magnetar_relation.specs.Rules.{system_at}
 use Rattle.magnetar_check.specs.CheckSteps.{from, system_done}
-use Rattle.magnetar_check.proofs.RowWalk.{system-start, system-more}
-use borrow.Author.Rules.{rules}
 use Rattle.magnetar_check.proofs.check.check_system.Given as goal
 
 abbrev pub invariant-loop-u : goal.invariant-loop-u

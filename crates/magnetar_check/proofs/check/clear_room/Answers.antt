@@ -3,7 +3,6 @@ use Rattle.std.specs.Prelude.{ℕ, ◌*◌}
 use native.Mathlib.Omega.{arith}
 use Rattle.magnetar_relation.specs.Steps.{cleared_to}
 use Rattle.magnetar_relation.proofs.StepLaws.{cleared-none}
-use borrow.Author.Rules.{rules}
 use Rattle.magnetar_check.proofs.check.clear_room.Goals as goal
 
 pub returns-then-k-s : goal.returns-then-k-s

@@ -1,5 +1,4 @@
 use borrow.Author.Tests.{ne_eqb}
-use borrow.Author.Rules.{rules}
 use Rattle.magnetar_check.proofs.check.clear_unless.Goals as goal
 
 pub returns-then-n-eq0 : goal.returns-then-n-eq0

@@ -1,6 +1,5 @@
 use mathlib.Core.Path.{refl}
 use Rattle.magnetar_check.proofs.RowWalk.{failing-here, failing-none}
-use borrow.Author.Rules.{rules}
 use Rattle.magnetar_check.proofs.check.first_bad.Goals as goal
 
 pub returns-then-i-n : goal.returns-then-i-n

@@ -1,6 +1,5 @@
 use native.Mathlib.Omega.{arith}
 use Rattle.magnetar_check.proofs.RowWalk.{row_here, row-short}
-use borrow.Author.Rules.{rules}
 use Rattle.magnetar_check.proofs.check.first_row.Goals as goal
 
 pub returns-then-n-s : goal.returns-then-n-s

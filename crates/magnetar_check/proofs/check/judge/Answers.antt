@@ -1,7 +1,6 @@
 use Rattle.magnetar_matrix.specs.Lent.{entries_of}
 use Rattle.magnetar_relation.proofs.EndLaws.{bin-ends}
 use Rattle.magnetar_check.proofs.RowWalk.{judge-cut}
-use borrow.Author.Rules.{rules}
 use Rattle.magnetar_check.proofs.check.judge.Goals as goal
 
 pub returns : goal.returns

@@ -1,4 +1,3 @@
-use borrow.Author.Rules.{rules}
 use Rattle.magnetar_check.proofs.check.product.Goals as goal
 
 pub returns : goal.returns

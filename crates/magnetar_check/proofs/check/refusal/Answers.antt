@@ -12,7 +12,6 @@ use Rattle.magnetar_relation.specs.RuleTests.{given}
 use Rattle.magnetar_relation.proofs.RuleLaws.{given-group}
 use Rattle.magnetar_check.specs.Check.{check_scratch_tests}
 use Rattle.magnetar_check.proofs.CheckEnds.{sixth-over}
-use borrow.Author.Rules.{rules}
 use Rattle.magnetar_check.proofs.check.refusal.Goals as goal
 
 -- what is known where the tests of the sizes refuse nothing
@@ -31,16 +30,16 @@ small m q n early clear =
 pub returns-then-y-ne0 : goal.returns-then-y-ne0
 returns-then-y-ne0 c =
     let second : Tests =
-        let x = c.args in
-        packed_tests_of (x.m / 2) x.q x.packed ++ (public_tests_of x.m x.q x.x ++ (given x.z ++ (layout_tests (x.m / 2) x.lens.now ++ check_scratch_tests x.nb x.nf x.scratch))) in
+    let x = c.args in
+    packed_tests_of (x.m / 2) x.q x.packed ++ (public_tests_of x.m x.q x.x ++ (given x.z ++ (layout_tests (x.m / 2) x.lens.now ++ check_scratch_tests x.nb x.nf x.scratch))) in
     let early : c.refuse-y-2.result ≡ first_refusal 0 (size_tests c.args.m c.args.q) =
-        rw (c.refuse-y-2.ensures, c.is_size-2.ensures, c.refuse-y.ensures, c.is_size.ensures) in
+    rw (c.refuse-y-2.ensures, c.is_size-2.ensures, c.refuse-y.ensures, c.is_size.ensures) in
     first-refusal-front (size_tests c.args.m c.args.q) second _ early c.if-y-ne0.true
 
 pub overflow_mul-q : goal.overflow_mul-q
 overflow_mul-q c =
     let early : c.refuse-y-2.result ≡ first_refusal 0 (size_tests c.args.m c.args.q) =
-        rw (c.refuse-y-2.ensures, c.is_size-2.ensures, c.refuse-y.ensures, c.is_size.ensures) in
+    rw (c.refuse-y-2.ensures, c.is_size-2.ensures, c.refuse-y.ensures, c.is_size.ensures) in
     let k = small c.args.m c.args.q _ early c.if-y-ne0.false in
     let x = c.args in
     let h : x.m / 2 ≤ 32768 = omega (arith, k.most) in
@@ -49,14 +48,14 @@ overflow_mul-q c =
 pub overflow_sub-m : goal.overflow_sub-m
 overflow_sub-m c =
     let early : c.refuse-y-2.result ≡ first_refusal 0 (size_tests c.args.m c.args.q) =
-        rw (c.refuse-y-2.ensures, c.is_size-2.ensures, c.refuse-y.ensures, c.is_size.ensures) in
+    rw (c.refuse-y-2.ensures, c.is_size-2.ensures, c.refuse-y.ensures, c.is_size.ensures) in
     let k = small c.args.m c.args.q _ early c.if-y-ne0.false in
     omega (arith, k.least)
 
 pub overflow_mul-q-2 : goal.overflow_mul-q-2
 overflow_mul-q-2 c =
     let early : c.refuse-y-2.result ≡ first_refusal 0 (size_tests c.args.m c.args.q) =
-        rw (c.refuse-y-2.ensures, c.is_size-2.ensures, c.refuse-y.ensures, c.is_size.ensures) in
+    rw (c.refuse-y-2.ensures, c.is_size-2.ensures, c.refuse-y.ensures, c.is_size.ensures) in
     let k = small c.args.m c.args.q _ early c.if-y-ne0.false in
     let x = c.args in
     omega (arith, product-fits x.q (x.m - 2) k.logins (omega (arith, k.most)))
@@ -64,10 +63,10 @@ overflow_mul-q-2 c =
 pub returns : goal.returns
 returns c =
     let second : Tests =
-        let x = c.args in
-        packed_tests_of (x.m / 2) x.q x.packed ++ (public_tests_of x.m x.q x.x ++ (given x.z ++ (layout_tests (x.m / 2) x.lens.now ++ check_scratch_tests x.nb x.nf x.scratch))) in
+    let x = c.args in
+    packed_tests_of (x.m / 2) x.q x.packed ++ (public_tests_of x.m x.q x.x ++ (given x.z ++ (layout_tests (x.m / 2) x.lens.now ++ check_scratch_tests x.nb x.nf x.scratch))) in
     let early : c.refuse-y-2.result ≡ first_refusal 0 (size_tests c.args.m c.args.q) =
-        rw (c.refuse-y-2.ensures, c.is_size-2.ensures, c.refuse-y.ensures, c.is_size.ensures) in
+    rw (c.refuse-y-2.ensures, c.is_size-2.ensures, c.refuse-y.ensures, c.is_size.ensures) in
     let k = small c.args.m c.args.q _ early c.if-y-ne0.false in
     let x = c.args in
     let ns = x.lens.now in

@@ -1,9 +1,8 @@
 use mathlib.Core.Path.{sym, ◌∙◌}
-use Rattle.std.specs.Prelude.{◌-◌, ◌≤◌}
 use native.Mathlib.Omega.{arith}
 use Rattle.magnetar_field.specs.Words.{elements}
 use Rattle.magnetar_matrix.specs.RowCheck.{holds_at}
-use Rattle.magnetar_matrix.proofs.FirstRow.{Below, below-start, below_more, first-is, first-end, rows-past}
+use Rattle.magnetar_matrix.proofs.FirstRow.{below-start, below_more, first-is, first-end, rows-past}
 use borrow.Author.Rules.{rules}
 use Rattle.magnetar_check.proofs.rows.first_failing.Goals as goal
 

@@ -1,11 +1,7 @@
-use mathlib.Core.Path.{sym, ◌∙◌}
 use Rattle.std.specs.Prelude.{◌-◌, ◌≤◌}
-use native.Mathlib.Omega.{arith}
-use borrow.Author.Tests.{not-true, not-false}
 use Rattle.magnetar_field.specs.Words.{elements}
 use Rattle.magnetar_matrix.specs.RowCheck.{holds_at}
-use Rattle.magnetar_matrix.proofs.FirstRow.{Below, below-start, below_more, first-is, first-end, rows-past}
-use borrow.Author.Rules.{rules}
+use Rattle.magnetar_matrix.proofs.FirstRow.{Below}
 use Rattle.magnetar_check.proofs.rows.first_failing.Given as goal
 
 abbrev pub invariant-loop-row : goal.invariant-loop-row
