@@ -112,9 +112,9 @@ fn run(stdout: &mut Out, x: &mut [u64], out: &mut [u64], scratch: &mut [u64]) ->
 
 fn main(rt: HostRuntime) -> io::Result<()> {
     let mut stdout = BufWriter::new(rt.alloc(), rt.stdout())?;
-    let mut x = [0u64; 131068];
-    let mut out = [0u64; 131072];
-    let mut scratch = [0u64; 524416];
+    let mut x = vec![in rt.alloc(); 0u64; 131068]?;
+    let mut out = vec![in rt.alloc(); 0u64; 131072]?;
+    let mut scratch = vec![in rt.alloc(); 0u64; 524416]?;
     run(&mut stdout, &mut x, &mut out, &mut scratch)?;
     stdout.flush()
 }
