@@ -1,6 +1,5 @@
 // A local lent: a transcript to the functions of `magnetar_transcript`, which change it in place, and the first n records of an array to
 // those of `magnetar_records`.
-// These functions are proved by walks (tools/thin.py).
 ghost use Rattle.std.specs.Prelude.{◌≡◌, ◌≤◌, length, take};
 ghost use Rattle.magnetar_multilinear.specs.Entries.{answer};
 ghost use Rattle.magnetar_hash.specs.Bytes.{le_bytes};

@@ -1,4 +1,4 @@
-use Rattle.std.proofs.Common.{◌≡◌, ◌-◌, ◌≤◌, length, rules}
+use Rattle.std.proofs.Common.{◌≡◌, ◌-◌, ◌≤◌, length}
 use Rattle.magnetar_limits.proofs.filled.places.Reads as reads
 use Rattle.magnetar_limits.proofs.filled.places.Lts as lts
 use Rattle.magnetar_limits.proofs.filled.place_of.Reads as place-of-reads

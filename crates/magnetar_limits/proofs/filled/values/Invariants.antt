@@ -1,4 +1,4 @@
-use Rattle.std.proofs.Common.{◌≡◌, ◌-◌, ◌≤◌, length, rules}
+use Rattle.std.proofs.Common.{◌≡◌, ◌-◌, ◌≤◌, length}
 use Rattle.magnetar_limits.proofs.filled.values.Reads as reads
 use Rattle.magnetar_limits.proofs.filled.values.Lts as lts
 use Rattle.magnetar_limits.proofs.filled.value_of.Reads as value-of-reads

@@ -1,4 +1,4 @@
-use Rattle.std.proofs.Common.{◌-◌, ◌≤◌, length, rules}
+use Rattle.std.proofs.Common.{◌-◌, ◌≤◌, length}
 use Rattle.magnetar_vectors.proofs.text.start.Given as goal
 
 abbrev pub invariant-loop-k : goal.invariant-loop-k
