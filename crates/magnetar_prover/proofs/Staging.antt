@@ -252,14 +252,14 @@ absorbed-one {w} {was} {out} {whole} {rest} {next} {s} {r} l v k h ev et ew el e
 
 -- ---- start and end
 
-pub Going-start
+pub going-start
     : (w was : List ℕ) (es : List Event) (t : Transcript) (s : Stage)
     → s.transcript ≡ t
     → s.written ≡ 0
     → s.place ≡ 0
     → PartialRun w was (run_from w (take s.left es) t) es 0 s was
 unfolding words
-Going-start w was es t s et ew ep =
+going-start w was es t s et ew ep =
     record {
       until = start t;
       transcript = et;
@@ -268,11 +268,11 @@ Going-start w was es t s et ew ep =
       all = refl;
     }
 
-pub Going-end
+pub going-end
     : {w was out : List ℕ} {whole : RunState} {next : ℕ} {s : Stage}
     → PartialRun w was whole [] next s out
     → (s.transcript ≡ whole.transcript) × (out ≡ overlaid (words whole.draws) was)
 unfolding run_events
-Going-end {w} {was} {out} {whole} {next} {s} g =
+going-end {w} {was} {out} {whole} {next} {s} g =
     let e : g.until ≡ whole = ap (λ (es : List Event). run_events w es g.until) (sym (take-nil {A = Event} s.left)) ∙ g.all in
     (g.transcript ∙ ap (λ (p : RunState). p.transcript) e, g.written.list ∙ ap (λ (p : RunState). overlaid (words p.draws) was) e)

@@ -14,7 +14,7 @@ use Rattle.magnetar_protocol.specs.Shape.{sizes_only}
 use Rattle.magnetar_schedule.specs.ScheduleRun.{RunState, run_from}
 use Rattle.magnetar_prover.specs.declared.schedule_run.Stage.{Stage}
 use Rattle.magnetar_prover.specs.Stages.{PartialRun, Runs, OuterRuns, InnerRuns}
-use Rattle.magnetar_prover.proofs.Staging.{going_start, going_end}
+use Rattle.magnetar_prover.proofs.Staging.{going-start, going-end}
 
 pub outer-all
     : {w o₀ o₁ o₂ o₃ o₄ o₅ : List ℕ} {s₀ s₁ s₂ s₃ s₄ s₅ : Stage} (a b f : ℕ)
@@ -73,4 +73,4 @@ run-all {w} {was} {mid} {last} {a} {b} {f} {c} {to} {s} {r} {v} m q rb rf ns t e
     (subst (λ (x : ℕ). OuterRuns w (log₂ q) x f s was r mid) eb
     (subst (λ (x : ℕ). OuterRuns w x b f s was r mid) ea outer))) in
     let i : InnerRuns w (log₂ m) (length ns) r mid v last = subst (λ (x : ℕ). InnerRuns w x (length ns) r mid v last) ec inner in
-    going_end (i was whole _ (o was whole _ (going_start w was (schedule (sizes_only m q rb rf ns)) t first refl refl refl)))
+    going-end (i was whole _ (o was whole _ (going-start w was (schedule (sizes_only m q rb rf ns)) t first refl refl refl)))

@@ -20,8 +20,8 @@ overflow_add-e c = let l = c.requires.local in omega (arith, l.most)
 pub slice_bounds-build-end : goal.slice_bounds-build-end
 slice_bounds-build-end c = let l = c.requires.local in sym (length-take-le _ _ (omega (arith, c.log2-k.ensures.0, l.drawn)))
 
-pub slice_bounds-build-end : goal.slice_bounds-build-end
-slice_bounds-build-end c = let l = c.requires.local in omega (arith, l.most)
+pub slice_bounds-build-end-2 : goal.slice_bounds-build-end-2
+slice_bounds-build-end-2 c = let l = c.requires.local in omega (arith, l.most)
 
 pub segment_dot-requires : goal.segment_dot-requires
 segment_dot-requires c = let l = c.requires.local in (
