@@ -1,6 +1,6 @@
 -- The fold of the public halves: what a login adds, and what is held back for the next one.
 -- Assumes nothing.
-use Rattle.std.specs.Prelude.{◌≡◌, ℕ, zero, suc, ◌+◌, ◌-◌, ◌*◌, ◌/◌, ◌^◌, ◌<◌, ◌≤◌, Bool, true, false, eqb, ltb, List, [], ◌∷◌, length, get_or, take, drop}
+use Rattle.std.specs.Prelude.{◌≡◌, ℕ, zero, suc, ◌+◌, ◌-◌, ◌*◌, ◌^◌, ◌<◌, ◌≤◌, Bool, true, false, eqb, ltb, List, ◌∷◌, length, get_or, take, drop}
 use mathlib.Core.Path.{refl, sym, ap, ◌∙◌}
 use native.Mathlib.Numerals.{add-one}
 use native.Mathlib.Omega.{arith}
@@ -10,7 +10,7 @@ use lib.Seq.{get_or-drop, get_or-take, take_all}
 use Rattle.magnetar_field.specs.Gf128.{◌⊕◌, ◌⊗◌}
 use Rattle.magnetar_field.specs.Tabulate.{tabulate}
 use Rattle.magnetar_field.specs.Words.{elements}
-use Rattle.magnetar_field.proofs.Xor.{⊕-zero, ⊕-assoc}
+use Rattle.magnetar_field.proofs.Xor.{⊕-zero}
 use Rattle.magnetar_field.proofs.Product.{⊗-zero, zero-⊗, ⊗-one, ⊕-⊗}
 use Rattle.magnetar_field.proofs.Elements.{elements-length}
 use Rattle.magnetar_field.proofs.Tabulation.{tabulate-ext}

@@ -1,13 +1,12 @@
-use Rattle.std.specs.Prelude.{◌≡◌, ℕ, ◌+◌, ◌-◌, min, List, length}
+use Rattle.std.specs.Prelude.{ℕ, ◌+◌, min, List}
 use mathlib.Core.Path.{refl, ap, ◌∙◌}
 use native.Mathlib.Omega.{arith}
 use Rattle.magnetar_matrix.specs.Matrix.{Entry}
 use Rattle.magnetar_matrix.specs.Lent.{entries_of}
 use Rattle.magnetar_relation.specs.Steps.{column_added}
 use Rattle.magnetar_relation.specs.EntryWalks.{fold_entries}
-use Rattle.magnetar_relation.proofs.ToldLaws.{range_of, range-more, range-end}
+use Rattle.magnetar_relation.proofs.ToldLaws.{range-more, range-end}
 use Rattle.magnetar_relation.proofs.RangeLaws.{range-is}
-use borrow.Author.Rules.{rules}
 use Rattle.magnetar_batch.proofs.combo.add_columns.Goals as goal
 
 pub loop-i-init : goal.loop-i-init

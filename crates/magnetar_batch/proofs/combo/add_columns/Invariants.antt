@@ -1,13 +1,7 @@
-use Rattle.std.specs.Prelude.{◌≡◌, ℕ, ◌+◌, ◌-◌, min, List, length}
-use mathlib.Core.Path.{refl, ap, ◌∙◌}
-use native.Mathlib.Omega.{arith}
-use Rattle.magnetar_matrix.specs.Matrix.{Entry}
-use Rattle.magnetar_matrix.specs.Lent.{entries_of}
+use Rattle.std.specs.Prelude.{◌≡◌, ◌-◌, length}
 use Rattle.magnetar_relation.specs.Steps.{column_added}
 use Rattle.magnetar_relation.specs.EntryWalks.{fold_entries}
-use Rattle.magnetar_relation.proofs.ToldLaws.{range_of, range-more, range-end}
-use Rattle.magnetar_relation.proofs.RangeLaws.{range-is}
-use borrow.Author.Rules.{rules}
+use Rattle.magnetar_relation.proofs.ToldLaws.{range_of}
 use Rattle.magnetar_batch.proofs.combo.add_columns.Given as goal
 
 abbrev pub invariant-loop-i : goal.invariant-loop-i

@@ -1,4 +1,3 @@
-use borrow.Author.Rules.{rules}
 use Rattle.magnetar_batch.proofs.combo.add_matrix.Goals as goal
 
 pub returns : goal.returns

@@ -1,7 +1,6 @@
 use native.Mathlib.Omega.{arith}
 use Rattle.magnetar_matrix.specs.Lent.{entries_of}
 use Rattle.magnetar_batch.proofs.TableWalk.{system-added}
-use borrow.Author.Rules.{rules}
 use Rattle.magnetar_batch.proofs.combo.add_system.Goals as goal
 
 pub overflow_add-k : goal.overflow_add-k

@@ -17,4 +17,4 @@ returns c =
     let n = c.refusal-n in
     rw (c.told.ensures.0, c.told.ensures.1)
     (value-ends x.z R x.al x.pb x.pf x.y x.s.now n.result (value-by x.z R (length x.s.now) _ _ (c.refusal-r.ensures ∙ long) n.ensures.0)
-        n.ensures.1 n.ensures.2 (slice_index (elements c.words_unless-v.result) 0) c.words_unless-v.new.s c.words_unless-v.ensures)
+    n.ensures.1 n.ensures.2 (slice_index (elements c.words_unless-v.result) 0) c.words_unless-v.new.s c.words_unless-v.ensures)

@@ -1,5 +1,4 @@
 use borrow.Author.Tests.{lt-ltb, le-ltb, le-leb, lt-leb}
-use borrow.Author.Rules.{rules}
 use Rattle.magnetar_batch.proofs.eval_records.row_within.Goals as goal
 
 pub returns-then-i-b : goal.returns-then-i-b

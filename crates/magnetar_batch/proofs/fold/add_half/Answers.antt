@@ -1,5 +1,5 @@
-use Rattle.std.specs.Prelude.{◌≡◌, ℕ, ◌+◌, ◌-◌, ◌/◌, ◌≤◌, length}
-use mathlib.Core.Path.{refl, sym, ap, ◌∙◌}
+use Rattle.std.specs.Prelude.{◌≡◌, ◌+◌}
+use mathlib.Core.Path.{refl, ap, ◌∙◌}
 use native.Mathlib.Numerals.{add-one}
 use native.Mathlib.Omega.{arith}
 use Rattle.magnetar_field.specs.Gf128.{value}
@@ -10,7 +10,6 @@ use Rattle.magnetar_matrix.proofs.Digits.{value-lt}
 use Rattle.magnetar_matrix.proofs.TableLaws.{added-in}
 use Rattle.magnetar_batch.proofs.Halves.{first_columns, columns-start, columns-more, half-end}
 use borrow.Author.Rules.{rules}
-use Rattle.magnetar_batch.proofs.fold.add_half.Reads as reads
 use Rattle.magnetar_batch.proofs.fold.add_half.Goals as goal
 
 pub loop-j-init : goal.loop-j-init

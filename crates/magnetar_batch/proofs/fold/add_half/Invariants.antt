@@ -1,16 +1,8 @@
-use Rattle.std.specs.Prelude.{◌≡◌, ℕ, ◌+◌, ◌-◌, ◌/◌, ◌≤◌, length}
-use mathlib.Core.Path.{refl, sym, ap, ◌∙◌}
-use native.Mathlib.Numerals.{add-one}
-use native.Mathlib.Omega.{arith}
+use Rattle.std.specs.Prelude.{◌≡◌, ◌-◌, ◌/◌, ◌≤◌, length}
 use Rattle.magnetar_field.specs.Gf128.{value}
 use Rattle.magnetar_field.specs.Words.{elements}
-use Rattle.magnetar_field.proofs.Elements.{elements-length}
 use Rattle.magnetar_matrix.specs.Table.{raised}
-use Rattle.magnetar_matrix.proofs.Digits.{value-lt}
-use Rattle.magnetar_matrix.proofs.TableLaws.{added-in}
-use Rattle.magnetar_batch.proofs.Halves.{first_columns, columns-start, columns-more, half-end}
-use borrow.Author.Rules.{rules}
-use Rattle.magnetar_batch.proofs.fold.add_half.Reads as reads
+use Rattle.magnetar_batch.proofs.Halves.{first_columns}
 use Rattle.magnetar_batch.proofs.fold.add_half.Given as goal
 
 abbrev pub invariant-loop-j : goal.invariant-loop-j

@@ -1,13 +1,12 @@
-use Rattle.std.specs.Prelude.{◌≡◌, ℕ, ◌-◌, ◌*◌, ◌/◌, ◌≤◌, length}
+use Rattle.std.specs.Prelude.{◌≡◌, ℕ, ◌-◌, ◌*◌, ◌/◌, length}
 use mathlib.Core.Path.{refl, sym, ap, ◌∙◌}
 use native.Mathlib.Omega.{arith}
 use Rattle.magnetar_field.specs.Gf128.{value, ◌⊕◌}
 use Rattle.magnetar_field.specs.Words.{elements}
 use Rattle.magnetar_field.proofs.Elements.{elements-length}
-use Rattle.magnetar_matrix.specs.Packed.{public_words}
 use Rattle.magnetar_matrix.proofs.Carried.{rest-long}
 use Rattle.magnetar_matrix.proofs.PublicParts.{PublicPart, public-part}
-use Rattle.magnetar_batch.proofs.Halves.{Held, held_start, element-kept, held_next, held-end}
+use Rattle.magnetar_batch.proofs.Halves.{held_start, element-kept, held_next, held-end}
 use borrow.Author.Rules.{rules}
 use Rattle.magnetar_batch.proofs.fold.add_halves.Goals as goal
 
@@ -23,37 +22,37 @@ loop-u-init c = let x = c.args in (refl, omega arith, refl, λ _. refl, held_sta
 pub overflow_mul-a : goal.overflow_mul-a
 overflow_mul-a c =
     let columns_of : let x = c.args in PublicPart (length x.x.now) (2 * x.w - 2) c.loop-u.u x.q =
-        public-part c.args.w _ _ c.loop-u.u _ c.requires.2 c.requires.1 refl c.requires.3 c.loop-u-test.true in
+    public-part c.args.w _ _ c.loop-u.u _ c.requires.2 c.requires.1 refl c.requires.3 c.loop-u-test.true in
     let p = columns_of in omega (arith, p.ends, p.small)
 
 pub offset_bounds-x-a : goal.offset_bounds-x-a
 offset_bounds-x-a c =
     let columns_of : let x = c.args in PublicPart (length x.x.now) (2 * x.w - 2) c.loop-u.u x.q =
-        public-part c.args.w _ _ c.loop-u.u _ c.requires.2 c.requires.1 refl c.requires.3 c.loop-u-test.true in
+    public-part c.args.w _ _ c.loop-u.u _ c.requires.2 c.requires.1 refl c.requires.3 c.loop-u-test.true in
     let p = columns_of in omega (arith, p.ends, p.small)
 
 pub slice_bounds-add_or_hold-count : goal.slice_bounds-add_or_hold-count
 slice_bounds-add_or_hold-count c =
     let columns_of : let x = c.args in PublicPart (length x.x.now) (2 * x.w - 2) c.loop-u.u x.q =
-        public-part c.args.w _ _ c.loop-u.u _ c.requires.2 c.requires.1 refl c.requires.3 c.loop-u-test.true in
+    public-part c.args.w _ _ c.loop-u.u _ c.requires.2 c.requires.1 refl c.requires.3 c.loop-u-test.true in
     let p = columns_of in omega (arith, p.ends, p.small)
 
 pub slice_bounds-add_or_hold-start : goal.slice_bounds-add_or_hold-start
 slice_bounds-add_or_hold-start c =
     let columns_of : let x = c.args in PublicPart (length x.x.now) (2 * x.w - 2) c.loop-u.u x.q =
-        public-part c.args.w _ _ c.loop-u.u _ c.requires.2 c.requires.1 refl c.requires.3 c.loop-u-test.true in
+    public-part c.args.w _ _ c.loop-u.u _ c.requires.2 c.requires.1 refl c.requires.3 c.loop-u-test.true in
     let p = columns_of in omega (arith, p.ends, p.small)
 
 pub slice_bounds-add_or_hold-end : goal.slice_bounds-add_or_hold-end
 slice_bounds-add_or_hold-end c =
     let columns_of : let x = c.args in PublicPart (length x.x.now) (2 * x.w - 2) c.loop-u.u x.q =
-        public-part c.args.w _ _ c.loop-u.u _ c.requires.2 c.requires.1 refl c.requires.3 c.loop-u-test.true in
+    public-part c.args.w _ _ c.loop-u.u _ c.requires.2 c.requires.1 refl c.requires.3 c.loop-u-test.true in
     let p = columns_of in omega (arith, p.ends, p.small)
 
 pub add_or_hold-e-requires : goal.add_or_hold-e-requires
 add_or_hold-e-requires c =
     let columns_of : let x = c.args in PublicPart (length x.x.now) (2 * x.w - 2) c.loop-u.u x.q =
-        public-part c.args.w _ _ c.loop-u.u _ c.requires.2 c.requires.1 refl c.requires.3 c.loop-u-test.true in
+    public-part c.args.w _ _ c.loop-u.u _ c.requires.2 c.requires.1 refl c.requires.3 c.loop-u-test.true in
     rest-long c.args.x.now _ _ (columns_of).ends
 
 pub loop-u-preserved : goal.loop-u-preserved

@@ -1,14 +1,8 @@
-use Rattle.std.specs.Prelude.{◌≡◌, ℕ, ◌-◌, ◌*◌, ◌/◌, ◌≤◌, length}
-use mathlib.Core.Path.{refl, sym, ap, ◌∙◌}
-use native.Mathlib.Omega.{arith}
-use Rattle.magnetar_field.specs.Gf128.{value, ◌⊕◌}
+use Rattle.std.specs.Prelude.{◌≡◌, ◌-◌, ◌≤◌, length}
+use Rattle.magnetar_field.specs.Gf128.{value}
 use Rattle.magnetar_field.specs.Words.{elements}
-use Rattle.magnetar_field.proofs.Elements.{elements-length}
 use Rattle.magnetar_matrix.specs.Packed.{public_words}
-use Rattle.magnetar_matrix.proofs.Carried.{rest-long}
-use Rattle.magnetar_matrix.proofs.PublicParts.{PublicPart, public-part}
-use Rattle.magnetar_batch.proofs.Halves.{Held, held_start, element-kept, held_next, held-end}
-use borrow.Author.Rules.{rules}
+use Rattle.magnetar_batch.proofs.Halves.{Held}
 use Rattle.magnetar_batch.proofs.fold.add_halves.Given as goal
 
 abbrev pub invariant-loop-u : goal.invariant-loop-u

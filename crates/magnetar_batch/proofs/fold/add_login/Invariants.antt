@@ -1,12 +1,8 @@
 use Rattle.std.specs.Prelude.{◌≡◌, ◌-◌, ◌*◌, ◌≤◌, length}
-use mathlib.Core.Path.{refl}
-use mathlib.Core.Logic.{inl, inr}
-use native.Mathlib.Omega.{arith}
 use Rattle.magnetar_field.specs.Gf128.{value}
 use Rattle.magnetar_field.specs.Words.{elements}
 use Rattle.magnetar_matrix.specs.Table.{raised}
-use Rattle.magnetar_batch.proofs.Selected.{up_to, columns-start, columns-more, columns-end}
-use borrow.Author.Rules.{rules}
+use Rattle.magnetar_batch.proofs.Selected.{up_to}
 use Rattle.magnetar_batch.proofs.fold.add_login.Given as goal
 
 abbrev pub invariant-loop-k : goal.invariant-loop-k

@@ -1,10 +1,7 @@
-use Rattle.std.specs.Prelude.{◌≡◌, ◌-◌, ◌≤◌, length, drop}
+use Rattle.std.specs.Prelude.{◌≡◌}
 use mathlib.Core.Path.{refl}
 use native.Mathlib.Omega.{arith}
 use Rattle.magnetar_field.specs.Words.{elements}
-use Rattle.magnetar_matrix.specs.Packed.{login_words}
-use Rattle.magnetar_matrix.specs.Table.{raised}
-use Rattle.magnetar_batch.specs.Fold.{fold_sum}
 use Rattle.magnetar_matrix.proofs.LoginParts.{part-of, part-is, words-most}
 use Rattle.magnetar_batch.proofs.Folds.{logins-start, logins-more, factor-kept}
 use borrow.Author.Rules.{rules}

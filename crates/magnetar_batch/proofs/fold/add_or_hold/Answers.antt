@@ -8,7 +8,6 @@ use Rattle.magnetar_matrix.specs.Table.{raised}
 use Rattle.magnetar_matrix.proofs.PublicParts.{repeated-is}
 use Rattle.magnetar_batch.specs.Fold.{half_times}
 use Rattle.magnetar_batch.proofs.Halves.{nothing-held}
-use Rattle.magnetar_batch.proofs.fold.add_or_hold.Reads as reads
 use Rattle.magnetar_batch.proofs.fold.add_or_hold.Goals as goal
 
 pub returns-then-repeats : goal.returns-then-repeats

@@ -58,7 +58,7 @@ unfolding fold_in_refusal
 returns-then-n-ne0 c =
     let x = c.args in
     let early : c.refuse-n-2.result ≡ first_refusal 0 (first x.w x.q) =
-        rw (c.refuse-n-2.ensures, c.is_size-2.ensures, c.refuse-n.ensures, c.is_size.ensures, half-size x.w) in
+    rw (c.refuse-n-2.ensures, c.is_size-2.ensures, c.refuse-n.ensures, c.is_size.ensures, half-size x.w) in
     let e = first-refusal-front (first x.w x.q) (rest x.w x.q x.packed.now x.point.now x.s.now) _ early c.if-n-ne0.true in record {
       answer = e;
       folded = turned _ _ e c.if-n-ne0.true;
@@ -68,7 +68,7 @@ pub overflow_mul-end : goal.overflow_mul-end
 overflow_mul-end c =
     let x = c.args in
     let early : c.refuse-n-2.result ≡ first_refusal 0 (first x.w x.q) =
-        rw (c.refuse-n-2.ensures, c.is_size-2.ensures, c.refuse-n.ensures, c.is_size.ensures, half-size x.w) in
+    rw (c.refuse-n-2.ensures, c.is_size-2.ensures, c.refuse-n.ensures, c.is_size.ensures, half-size x.w) in
     let m = small x.w x.q _ early c.if-n-ne0.false in
     omega (arith, m.half)
 
@@ -76,7 +76,7 @@ pub overflow_mul-end-2 : goal.overflow_mul-end-2
 overflow_mul-end-2 c =
     let x = c.args in
     let early : c.refuse-n-2.result ≡ first_refusal 0 (first x.w x.q) =
-        rw (c.refuse-n-2.ensures, c.is_size-2.ensures, c.refuse-n.ensures, c.is_size.ensures, half-size x.w) in
+    rw (c.refuse-n-2.ensures, c.is_size-2.ensures, c.refuse-n.ensures, c.is_size.ensures, half-size x.w) in
     let m = small x.w x.q _ early c.if-n-ne0.false in
     omega (arith, m.logins.high)
 
@@ -84,7 +84,7 @@ pub overflow_add-end : goal.overflow_add-end
 overflow_add-end c =
     let x = c.args in
     let early : c.refuse-n-2.result ≡ first_refusal 0 (first x.w x.q) =
-        rw (c.refuse-n-2.ensures, c.is_size-2.ensures, c.refuse-n.ensures, c.is_size.ensures, half-size x.w) in
+    rw (c.refuse-n-2.ensures, c.is_size-2.ensures, c.refuse-n.ensures, c.is_size.ensures, half-size x.w) in
     let m = small x.w x.q _ early c.if-n-ne0.false in
     omega (arith, m.half, m.logins.high)
 
@@ -92,7 +92,7 @@ pub overflow_mul-q : goal.overflow_mul-q
 overflow_mul-q c =
     let x = c.args in
     let early : c.refuse-n-2.result ≡ first_refusal 0 (first x.w x.q) =
-        rw (c.refuse-n-2.ensures, c.is_size-2.ensures, c.refuse-n.ensures, c.is_size.ensures, half-size x.w) in
+    rw (c.refuse-n-2.ensures, c.is_size-2.ensures, c.refuse-n.ensures, c.is_size.ensures, half-size x.w) in
     let m = small x.w x.q _ early c.if-n-ne0.false in
     omega (arith, product-most x.q c.login_words.result m.logins.high (rw c.login_words.ensures (words-most _ m.half)))
 
@@ -100,7 +100,7 @@ pub overflow_mul-log2 : goal.overflow_mul-log2
 overflow_mul-log2 c =
     let x = c.args in
     let early : c.refuse-n-2.result ≡ first_refusal 0 (first x.w x.q) =
-        rw (c.refuse-n-2.ensures, c.is_size-2.ensures, c.refuse-n.ensures, c.is_size.ensures, half-size x.w) in
+    rw (c.refuse-n-2.ensures, c.is_size-2.ensures, c.refuse-n.ensures, c.is_size.ensures, half-size x.w) in
     let m = small x.w x.q _ early c.if-n-ne0.false in
     let z = sized-wider 65536 (lit≤ tt) m.logins in
     omega (arith, c.log2.ensures.0, log-most _ z.high z.power)
@@ -110,9 +110,9 @@ unfolding fold_in_refusal
 returns-then-n-ne0-2 c =
     let x = c.args in
     let early : c.refuse-n-2.result ≡ first_refusal 0 (first x.w x.q) =
-        rw (c.refuse-n-2.ensures, c.is_size-2.ensures, c.refuse-n.ensures, c.is_size.ensures, half-size x.w) in
+    rw (c.refuse-n-2.ensures, c.is_size-2.ensures, c.refuse-n.ensures, c.is_size.ensures, half-size x.w) in
     let late : c.refuse-n-5.result ≡ first_refusal 0 (rest x.w x.q x.packed.now x.point.now x.s.now) =
-        rw (c.refuse-n-5.ensures, c.refuse-n-4.ensures, c.log2.ensures.0, c.refuse-n-3.ensures, c.login_words.ensures) in
+    rw (c.refuse-n-5.ensures, c.refuse-n-4.ensures, c.log2.ensures.0, c.refuse-n-3.ensures, c.login_words.ensures) in
     let e = first-refusal-late (first x.w x.q) (rest x.w x.q x.packed.now x.point.now x.s.now) _ _ early c.if-n-ne0.false late in record {
       answer = e;
       folded = turned _ _ e c.if-n-ne0-2.true;
@@ -122,7 +122,7 @@ pub slice_bounds-fold_one-end : goal.slice_bounds-fold_one-end
 slice_bounds-fold_one-end c =
     let x = c.args in
     let late : c.refuse-n-5.result ≡ first_refusal 0 (rest x.w x.q x.packed.now x.point.now x.s.now) =
-        rw (c.refuse-n-5.ensures, c.refuse-n-4.ensures, c.log2.ensures.0, c.refuse-n-3.ensures, c.login_words.ensures) in
+    rw (c.refuse-n-5.ensures, c.refuse-n-4.ensures, c.log2.ensures.0, c.refuse-n-3.ensures, c.login_words.ensures) in
     let f = fits x.w x.q x.packed.now x.point.now x.s.now _ late c.if-n-ne0-2.false in
     f.room
 
@@ -130,7 +130,7 @@ pub slice_bounds-fold_one-end-2 : goal.slice_bounds-fold_one-end-2
 slice_bounds-fold_one-end-2 c =
     let x = c.args in
     let late : c.refuse-n-5.result ≡ first_refusal 0 (rest x.w x.q x.packed.now x.point.now x.s.now) =
-        rw (c.refuse-n-5.ensures, c.refuse-n-4.ensures, c.log2.ensures.0, c.refuse-n-3.ensures, c.login_words.ensures) in
+    rw (c.refuse-n-5.ensures, c.refuse-n-4.ensures, c.log2.ensures.0, c.refuse-n-3.ensures, c.login_words.ensures) in
     let f = fits x.w x.q x.packed.now x.point.now x.s.now _ late c.if-n-ne0-2.false in
     sym (length-take-le _ _ f.room)
 
@@ -138,9 +138,9 @@ pub fold_one-requires : goal.fold_one-requires
 fold_one-requires c =
     let x = c.args in
     let early : c.refuse-n-2.result ≡ first_refusal 0 (first x.w x.q) =
-        rw (c.refuse-n-2.ensures, c.is_size-2.ensures, c.refuse-n.ensures, c.is_size.ensures, half-size x.w) in
+    rw (c.refuse-n-2.ensures, c.is_size-2.ensures, c.refuse-n.ensures, c.is_size.ensures, half-size x.w) in
     let late : c.refuse-n-5.result ≡ first_refusal 0 (rest x.w x.q x.packed.now x.point.now x.s.now) =
-        rw (c.refuse-n-5.ensures, c.refuse-n-4.ensures, c.log2.ensures.0, c.refuse-n-3.ensures, c.login_words.ensures) in
+    rw (c.refuse-n-5.ensures, c.refuse-n-4.ensures, c.log2.ensures.0, c.refuse-n-3.ensures, c.login_words.ensures) in
     let m = small x.w x.q _ early c.if-n-ne0.false in
     let f = fits x.w x.q x.packed.now x.point.now x.s.now _ late c.if-n-ne0-2.false in
     let l = length-take-le (2 * x.w + 2 * x.q) x.s.now f.room in record {
@@ -154,9 +154,9 @@ unfolding fold_in_refusal
 returns c =
     let x = c.args in
     let early : c.refuse-n-2.result ≡ first_refusal 0 (first x.w x.q) =
-        rw (c.refuse-n-2.ensures, c.is_size-2.ensures, c.refuse-n.ensures, c.is_size.ensures, half-size x.w) in
+    rw (c.refuse-n-2.ensures, c.is_size-2.ensures, c.refuse-n.ensures, c.is_size.ensures, half-size x.w) in
     let late : c.refuse-n-5.result ≡ first_refusal 0 (rest x.w x.q x.packed.now x.point.now x.s.now) =
-        rw (c.refuse-n-5.ensures, c.refuse-n-4.ensures, c.log2.ensures.0, c.refuse-n-3.ensures, c.login_words.ensures) in
+    rw (c.refuse-n-5.ensures, c.refuse-n-4.ensures, c.log2.ensures.0, c.refuse-n-3.ensures, c.login_words.ensures) in
     let m = small x.w x.q _ early c.if-n-ne0.false in
     let f = fits x.w x.q x.packed.now x.point.now x.s.now _ late c.if-n-ne0-2.false in
     let e = sym c.if-n-ne0-2.false ∙ first-refusal-late (first x.w x.q) (rest x.w x.q x.packed.now x.point.now x.s.now) _ _ early c.if-n-ne0.false late in

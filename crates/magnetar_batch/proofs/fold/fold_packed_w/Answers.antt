@@ -1,4 +1,4 @@
-use Rattle.std.specs.Prelude.{◌≡◌, ℕ, ◌+◌, ◌*◌, ◌≤◌, ◌++◌, List, length}
+use Rattle.std.specs.Prelude.{◌≡◌, ℕ, ◌*◌, ◌≤◌, ◌++◌, List, length}
 use mathlib.Core.Path.{refl, sym, ◌∙◌}
 use native.Mathlib.Omega.{arith}
 use lib.Seq.{length-take-le}
@@ -59,7 +59,7 @@ unfolding fold_refusal
 returns-then-n-ne0 c =
     let x = c.args in
     let early : c.refuse-n-2.result ≡ first_refusal 0 (first x.w x.q) =
-        rw (c.refuse-n-2.ensures, c.is_size-2.ensures, c.refuse-n.ensures, c.is_size.ensures, half-size x.w) in
+    rw (c.refuse-n-2.ensures, c.is_size-2.ensures, c.refuse-n.ensures, c.is_size.ensures, half-size x.w) in
     let e = first-refusal-front (first x.w x.q) (rest x.w x.q x.packed.now x.point.now x.out.now x.scratch.now) _ early c.if-n-ne0.true in record {
       answer = e;
       folded = turned _ _ e c.if-n-ne0.true;
@@ -70,7 +70,7 @@ pub overflow_mul-q : goal.overflow_mul-q
 overflow_mul-q c =
     let x = c.args in
     let early : c.refuse-n-2.result ≡ first_refusal 0 (first x.w x.q) =
-        rw (c.refuse-n-2.ensures, c.is_size-2.ensures, c.refuse-n.ensures, c.is_size.ensures, half-size x.w) in
+    rw (c.refuse-n-2.ensures, c.is_size-2.ensures, c.refuse-n.ensures, c.is_size.ensures, half-size x.w) in
     let m = small x.w x.q _ early c.if-n-ne0.false in
     omega (arith, product-most x.q c.login_words.result m.logins.high (rw c.login_words.ensures (words-most _ m.half)))
 
@@ -78,7 +78,7 @@ pub overflow_mul-log2 : goal.overflow_mul-log2
 overflow_mul-log2 c =
     let x = c.args in
     let early : c.refuse-n-2.result ≡ first_refusal 0 (first x.w x.q) =
-        rw (c.refuse-n-2.ensures, c.is_size-2.ensures, c.refuse-n.ensures, c.is_size.ensures, half-size x.w) in
+    rw (c.refuse-n-2.ensures, c.is_size-2.ensures, c.refuse-n.ensures, c.is_size.ensures, half-size x.w) in
     let m = small x.w x.q _ early c.if-n-ne0.false in
     let z = sized-wider 65536 (lit≤ tt) m.logins in
     omega (arith, c.log2.ensures.0, log-most _ z.high z.power)
@@ -87,7 +87,7 @@ pub overflow_mul-w : goal.overflow_mul-w
 overflow_mul-w c =
     let x = c.args in
     let early : c.refuse-n-2.result ≡ first_refusal 0 (first x.w x.q) =
-        rw (c.refuse-n-2.ensures, c.is_size-2.ensures, c.refuse-n.ensures, c.is_size.ensures, half-size x.w) in
+    rw (c.refuse-n-2.ensures, c.is_size-2.ensures, c.refuse-n.ensures, c.is_size.ensures, half-size x.w) in
     let m = small x.w x.q _ early c.if-n-ne0.false in
     omega (arith, m.half)
 
@@ -95,7 +95,7 @@ pub overflow_mul-q-2 : goal.overflow_mul-q-2
 overflow_mul-q-2 c =
     let x = c.args in
     let early : c.refuse-n-2.result ≡ first_refusal 0 (first x.w x.q) =
-        rw (c.refuse-n-2.ensures, c.is_size-2.ensures, c.refuse-n.ensures, c.is_size.ensures, half-size x.w) in
+    rw (c.refuse-n-2.ensures, c.is_size-2.ensures, c.refuse-n.ensures, c.is_size.ensures, half-size x.w) in
     let m = small x.w x.q _ early c.if-n-ne0.false in
     omega (arith, m.logins.high)
 
@@ -104,9 +104,9 @@ unfolding fold_refusal
 returns-then-n-ne0-2 c =
     let x = c.args in
     let early : c.refuse-n-2.result ≡ first_refusal 0 (first x.w x.q) =
-        rw (c.refuse-n-2.ensures, c.is_size-2.ensures, c.refuse-n.ensures, c.is_size.ensures, half-size x.w) in
+    rw (c.refuse-n-2.ensures, c.is_size-2.ensures, c.refuse-n.ensures, c.is_size.ensures, half-size x.w) in
     let late : c.refuse-n-6.result ≡ first_refusal 0 (rest x.w x.q x.packed.now x.point.now x.out.now x.scratch.now) =
-        rw (c.refuse-n-6.ensures, c.refuse-n-5.ensures, c.refuse-n-4.ensures, c.log2.ensures.0, c.refuse-n-3.ensures, c.login_words.ensures) in
+    rw (c.refuse-n-6.ensures, c.refuse-n-5.ensures, c.refuse-n-4.ensures, c.log2.ensures.0, c.refuse-n-3.ensures, c.login_words.ensures) in
     let e = first-refusal-late (first x.w x.q) (rest x.w x.q x.packed.now x.point.now x.out.now x.scratch.now) _ _ early c.if-n-ne0.false late in record {
       answer = e;
       folded = turned _ _ e c.if-n-ne0-2.true;
@@ -117,7 +117,7 @@ pub overflow_mul-end : goal.overflow_mul-end
 overflow_mul-end c =
     let x = c.args in
     let early : c.refuse-n-2.result ≡ first_refusal 0 (first x.w x.q) =
-        rw (c.refuse-n-2.ensures, c.is_size-2.ensures, c.refuse-n.ensures, c.is_size.ensures, half-size x.w) in
+    rw (c.refuse-n-2.ensures, c.is_size-2.ensures, c.refuse-n.ensures, c.is_size.ensures, half-size x.w) in
     let m = small x.w x.q _ early c.if-n-ne0.false in
     omega (arith, m.half)
 
@@ -125,7 +125,7 @@ pub overflow_mul-room : goal.overflow_mul-room
 overflow_mul-room c =
     let x = c.args in
     let early : c.refuse-n-2.result ≡ first_refusal 0 (first x.w x.q) =
-        rw (c.refuse-n-2.ensures, c.is_size-2.ensures, c.refuse-n.ensures, c.is_size.ensures, half-size x.w) in
+    rw (c.refuse-n-2.ensures, c.is_size-2.ensures, c.refuse-n.ensures, c.is_size.ensures, half-size x.w) in
     let m = small x.w x.q _ early c.if-n-ne0.false in
     omega (arith, m.logins.high)
 
@@ -133,7 +133,7 @@ pub slice_bounds-fold_in-end : goal.slice_bounds-fold_in-end
 slice_bounds-fold_in-end c =
     let x = c.args in
     let late : c.refuse-n-6.result ≡ first_refusal 0 (rest x.w x.q x.packed.now x.point.now x.out.now x.scratch.now) =
-        rw (c.refuse-n-6.ensures, c.refuse-n-5.ensures, c.refuse-n-4.ensures, c.log2.ensures.0, c.refuse-n-3.ensures, c.login_words.ensures) in
+    rw (c.refuse-n-6.ensures, c.refuse-n-5.ensures, c.refuse-n-4.ensures, c.log2.ensures.0, c.refuse-n-3.ensures, c.login_words.ensures) in
     let f = fits x.w x.q x.packed.now x.point.now x.out.now x.scratch.now _ late c.if-n-ne0-2.false in
     f.out
 
@@ -141,7 +141,7 @@ pub slice_bounds-fold_in-end-2 : goal.slice_bounds-fold_in-end-2
 slice_bounds-fold_in-end-2 c =
     let x = c.args in
     let late : c.refuse-n-6.result ≡ first_refusal 0 (rest x.w x.q x.packed.now x.point.now x.out.now x.scratch.now) =
-        rw (c.refuse-n-6.ensures, c.refuse-n-5.ensures, c.refuse-n-4.ensures, c.log2.ensures.0, c.refuse-n-3.ensures, c.login_words.ensures) in
+    rw (c.refuse-n-6.ensures, c.refuse-n-5.ensures, c.refuse-n-4.ensures, c.log2.ensures.0, c.refuse-n-3.ensures, c.login_words.ensures) in
     let f = fits x.w x.q x.packed.now x.point.now x.out.now x.scratch.now _ late c.if-n-ne0-2.false in
     sym (length-take-le _ _ f.out)
 
@@ -149,7 +149,7 @@ pub slice_bounds-fold_in-end-3 : goal.slice_bounds-fold_in-end-3
 slice_bounds-fold_in-end-3 c =
     let x = c.args in
     let late : c.refuse-n-6.result ≡ first_refusal 0 (rest x.w x.q x.packed.now x.point.now x.out.now x.scratch.now) =
-        rw (c.refuse-n-6.ensures, c.refuse-n-5.ensures, c.refuse-n-4.ensures, c.log2.ensures.0, c.refuse-n-3.ensures, c.login_words.ensures) in
+    rw (c.refuse-n-6.ensures, c.refuse-n-5.ensures, c.refuse-n-4.ensures, c.log2.ensures.0, c.refuse-n-3.ensures, c.login_words.ensures) in
     let f = fits x.w x.q x.packed.now x.point.now x.out.now x.scratch.now _ late c.if-n-ne0-2.false in
     f.scratch
 
@@ -157,7 +157,7 @@ pub slice_bounds-fold_in-end-4 : goal.slice_bounds-fold_in-end-4
 slice_bounds-fold_in-end-4 c =
     let x = c.args in
     let late : c.refuse-n-6.result ≡ first_refusal 0 (rest x.w x.q x.packed.now x.point.now x.out.now x.scratch.now) =
-        rw (c.refuse-n-6.ensures, c.refuse-n-5.ensures, c.refuse-n-4.ensures, c.log2.ensures.0, c.refuse-n-3.ensures, c.login_words.ensures) in
+    rw (c.refuse-n-6.ensures, c.refuse-n-5.ensures, c.refuse-n-4.ensures, c.log2.ensures.0, c.refuse-n-3.ensures, c.login_words.ensures) in
     let f = fits x.w x.q x.packed.now x.point.now x.out.now x.scratch.now _ late c.if-n-ne0-2.false in
     sym (length-take-le _ _ f.scratch)
 
@@ -165,9 +165,9 @@ pub fold_in-requires : goal.fold_in-requires
 fold_in-requires c =
     let x = c.args in
     let early : c.refuse-n-2.result ≡ first_refusal 0 (first x.w x.q) =
-        rw (c.refuse-n-2.ensures, c.is_size-2.ensures, c.refuse-n.ensures, c.is_size.ensures, half-size x.w) in
+    rw (c.refuse-n-2.ensures, c.is_size-2.ensures, c.refuse-n.ensures, c.is_size.ensures, half-size x.w) in
     let late : c.refuse-n-6.result ≡ first_refusal 0 (rest x.w x.q x.packed.now x.point.now x.out.now x.scratch.now) =
-        rw (c.refuse-n-6.ensures, c.refuse-n-5.ensures, c.refuse-n-4.ensures, c.log2.ensures.0, c.refuse-n-3.ensures, c.login_words.ensures) in
+    rw (c.refuse-n-6.ensures, c.refuse-n-5.ensures, c.refuse-n-4.ensures, c.log2.ensures.0, c.refuse-n-3.ensures, c.login_words.ensures) in
     let m = small x.w x.q _ early c.if-n-ne0.false in
     let f = fits x.w x.q x.packed.now x.point.now x.out.now x.scratch.now _ late c.if-n-ne0-2.false in
     record {
@@ -181,9 +181,9 @@ unfolding fold_refusal
 returns c =
     let x = c.args in
     let early : c.refuse-n-2.result ≡ first_refusal 0 (first x.w x.q) =
-        rw (c.refuse-n-2.ensures, c.is_size-2.ensures, c.refuse-n.ensures, c.is_size.ensures, half-size x.w) in
+    rw (c.refuse-n-2.ensures, c.is_size-2.ensures, c.refuse-n.ensures, c.is_size.ensures, half-size x.w) in
     let late : c.refuse-n-6.result ≡ first_refusal 0 (rest x.w x.q x.packed.now x.point.now x.out.now x.scratch.now) =
-        rw (c.refuse-n-6.ensures, c.refuse-n-5.ensures, c.refuse-n-4.ensures, c.log2.ensures.0, c.refuse-n-3.ensures, c.login_words.ensures) in
+    rw (c.refuse-n-6.ensures, c.refuse-n-5.ensures, c.refuse-n-4.ensures, c.log2.ensures.0, c.refuse-n-3.ensures, c.login_words.ensures) in
     let m = small x.w x.q _ early c.if-n-ne0.false in
     let f = fits x.w x.q x.packed.now x.point.now x.out.now x.scratch.now _ late c.if-n-ne0-2.false in
     let e = sym c.if-n-ne0-2.false ∙ first-refusal-late (first x.w x.q) (rest x.w x.q x.packed.now x.point.now x.out.now x.scratch.now) _ _ early c.if-n-ne0.false late in

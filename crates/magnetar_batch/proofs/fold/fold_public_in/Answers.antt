@@ -59,7 +59,7 @@ unfolding public_in_refusal
 returns-then-n-ne0 c =
     let x = c.args in
     let early : c.refuse-n-2.result ≡ first_refusal 0 (first x.w x.q) =
-        rw (c.refuse-n-2.ensures, c.is_size-2.ensures, c.refuse-n.ensures, c.is_size.ensures, half-size x.w) in
+    rw (c.refuse-n-2.ensures, c.is_size-2.ensures, c.refuse-n.ensures, c.is_size.ensures, half-size x.w) in
     let e = first-refusal-front (first x.w x.q) (rest x.w x.q x.x.now x.point.now x.s.now) _ early c.if-n-ne0.true in record {
       answer = e;
       folded = turned _ _ e c.if-n-ne0.true;
@@ -69,7 +69,7 @@ pub overflow_mul-end : goal.overflow_mul-end
 overflow_mul-end c =
     let x = c.args in
     let early : c.refuse-n-2.result ≡ first_refusal 0 (first x.w x.q) =
-        rw (c.refuse-n-2.ensures, c.is_size-2.ensures, c.refuse-n.ensures, c.is_size.ensures, half-size x.w) in
+    rw (c.refuse-n-2.ensures, c.is_size-2.ensures, c.refuse-n.ensures, c.is_size.ensures, half-size x.w) in
     let m = small x.w x.q _ early c.if-n-ne0.false in
     omega (arith, m.half)
 
@@ -77,7 +77,7 @@ pub overflow_mul-end-2 : goal.overflow_mul-end-2
 overflow_mul-end-2 c =
     let x = c.args in
     let early : c.refuse-n-2.result ≡ first_refusal 0 (first x.w x.q) =
-        rw (c.refuse-n-2.ensures, c.is_size-2.ensures, c.refuse-n.ensures, c.is_size.ensures, half-size x.w) in
+    rw (c.refuse-n-2.ensures, c.is_size-2.ensures, c.refuse-n.ensures, c.is_size.ensures, half-size x.w) in
     let m = small x.w x.q _ early c.if-n-ne0.false in
     omega (arith, m.logins.high)
 
@@ -85,7 +85,7 @@ pub overflow_add-end : goal.overflow_add-end
 overflow_add-end c =
     let x = c.args in
     let early : c.refuse-n-2.result ≡ first_refusal 0 (first x.w x.q) =
-        rw (c.refuse-n-2.ensures, c.is_size-2.ensures, c.refuse-n.ensures, c.is_size.ensures, half-size x.w) in
+    rw (c.refuse-n-2.ensures, c.is_size-2.ensures, c.refuse-n.ensures, c.is_size.ensures, half-size x.w) in
     let m = small x.w x.q _ early c.if-n-ne0.false in
     omega (arith, m.half, m.logins.high)
 
@@ -93,7 +93,7 @@ pub overflow_mul-w : goal.overflow_mul-w
 overflow_mul-w c =
     let x = c.args in
     let early : c.refuse-n-2.result ≡ first_refusal 0 (first x.w x.q) =
-        rw (c.refuse-n-2.ensures, c.is_size-2.ensures, c.refuse-n.ensures, c.is_size.ensures, half-size x.w) in
+    rw (c.refuse-n-2.ensures, c.is_size-2.ensures, c.refuse-n.ensures, c.is_size.ensures, half-size x.w) in
     let m = small x.w x.q _ early c.if-n-ne0.false in
     omega (arith, m.half)
 
@@ -101,7 +101,7 @@ pub overflow_sub-w : goal.overflow_sub-w
 overflow_sub-w c =
     let x = c.args in
     let early : c.refuse-n-2.result ≡ first_refusal 0 (first x.w x.q) =
-        rw (c.refuse-n-2.ensures, c.is_size-2.ensures, c.refuse-n.ensures, c.is_size.ensures, half-size x.w) in
+    rw (c.refuse-n-2.ensures, c.is_size-2.ensures, c.refuse-n.ensures, c.is_size.ensures, half-size x.w) in
     let m = small x.w x.q _ early c.if-n-ne0.false in
     omega (arith, m.least)
 
@@ -109,7 +109,7 @@ pub overflow_mul-q : goal.overflow_mul-q
 overflow_mul-q c =
     let x = c.args in
     let early : c.refuse-n-2.result ≡ first_refusal 0 (first x.w x.q) =
-        rw (c.refuse-n-2.ensures, c.is_size-2.ensures, c.refuse-n.ensures, c.is_size.ensures, half-size x.w) in
+    rw (c.refuse-n-2.ensures, c.is_size-2.ensures, c.refuse-n.ensures, c.is_size.ensures, half-size x.w) in
     let m = small x.w x.q _ early c.if-n-ne0.false in
     omega (arith, public-most x.q _ m.logins.high m.half)
 
@@ -117,7 +117,7 @@ pub overflow_mul-log2 : goal.overflow_mul-log2
 overflow_mul-log2 c =
     let x = c.args in
     let early : c.refuse-n-2.result ≡ first_refusal 0 (first x.w x.q) =
-        rw (c.refuse-n-2.ensures, c.is_size-2.ensures, c.refuse-n.ensures, c.is_size.ensures, half-size x.w) in
+    rw (c.refuse-n-2.ensures, c.is_size-2.ensures, c.refuse-n.ensures, c.is_size.ensures, half-size x.w) in
     let m = small x.w x.q _ early c.if-n-ne0.false in
     let z = sized-wider 65536 (lit≤ tt) m.logins in
     omega (arith, c.log2.ensures.0, log-most _ z.high z.power)
@@ -127,9 +127,9 @@ unfolding public_in_refusal
 returns-then-n-ne0-2 c =
     let x = c.args in
     let early : c.refuse-n-2.result ≡ first_refusal 0 (first x.w x.q) =
-        rw (c.refuse-n-2.ensures, c.is_size-2.ensures, c.refuse-n.ensures, c.is_size.ensures, half-size x.w) in
+    rw (c.refuse-n-2.ensures, c.is_size-2.ensures, c.refuse-n.ensures, c.is_size.ensures, half-size x.w) in
     let late : c.refuse-n-5.result ≡ first_refusal 0 (rest x.w x.q x.x.now x.point.now x.s.now) =
-        rw (c.refuse-n-5.ensures, c.refuse-n-4.ensures, c.log2.ensures.0, c.refuse-n-3.ensures) in
+    rw (c.refuse-n-5.ensures, c.refuse-n-4.ensures, c.log2.ensures.0, c.refuse-n-3.ensures) in
     let e = first-refusal-late (first x.w x.q) (rest x.w x.q x.x.now x.point.now x.s.now) _ _ early c.if-n-ne0.false late in record {
       answer = e;
       folded = turned _ _ e c.if-n-ne0-2.true;
@@ -139,7 +139,7 @@ pub slice_bounds-fold_halves-end : goal.slice_bounds-fold_halves-end
 slice_bounds-fold_halves-end c =
     let x = c.args in
     let late : c.refuse-n-5.result ≡ first_refusal 0 (rest x.w x.q x.x.now x.point.now x.s.now) =
-        rw (c.refuse-n-5.ensures, c.refuse-n-4.ensures, c.log2.ensures.0, c.refuse-n-3.ensures) in
+    rw (c.refuse-n-5.ensures, c.refuse-n-4.ensures, c.log2.ensures.0, c.refuse-n-3.ensures) in
     let f = fits x.w x.q x.x.now x.point.now x.s.now _ late c.if-n-ne0-2.false in
     f.room
 
@@ -147,7 +147,7 @@ pub slice_bounds-fold_halves-end-2 : goal.slice_bounds-fold_halves-end-2
 slice_bounds-fold_halves-end-2 c =
     let x = c.args in
     let late : c.refuse-n-5.result ≡ first_refusal 0 (rest x.w x.q x.x.now x.point.now x.s.now) =
-        rw (c.refuse-n-5.ensures, c.refuse-n-4.ensures, c.log2.ensures.0, c.refuse-n-3.ensures) in
+    rw (c.refuse-n-5.ensures, c.refuse-n-4.ensures, c.log2.ensures.0, c.refuse-n-3.ensures) in
     let f = fits x.w x.q x.x.now x.point.now x.s.now _ late c.if-n-ne0-2.false in
     sym (length-take-le _ _ f.room)
 
@@ -155,9 +155,9 @@ pub fold_halves-requires : goal.fold_halves-requires
 fold_halves-requires c =
     let x = c.args in
     let early : c.refuse-n-2.result ≡ first_refusal 0 (first x.w x.q) =
-        rw (c.refuse-n-2.ensures, c.is_size-2.ensures, c.refuse-n.ensures, c.is_size.ensures, half-size x.w) in
+    rw (c.refuse-n-2.ensures, c.is_size-2.ensures, c.refuse-n.ensures, c.is_size.ensures, half-size x.w) in
     let late : c.refuse-n-5.result ≡ first_refusal 0 (rest x.w x.q x.x.now x.point.now x.s.now) =
-        rw (c.refuse-n-5.ensures, c.refuse-n-4.ensures, c.log2.ensures.0, c.refuse-n-3.ensures) in
+    rw (c.refuse-n-5.ensures, c.refuse-n-4.ensures, c.log2.ensures.0, c.refuse-n-3.ensures) in
     let m = small x.w x.q _ early c.if-n-ne0.false in
     let f = fits x.w x.q x.x.now x.point.now x.s.now _ late c.if-n-ne0-2.false in
     let l = length-take-le (2 * x.w + 2 * x.q) x.s.now f.room in record {
@@ -171,9 +171,9 @@ unfolding public_in_refusal
 returns c =
     let x = c.args in
     let early : c.refuse-n-2.result ≡ first_refusal 0 (first x.w x.q) =
-        rw (c.refuse-n-2.ensures, c.is_size-2.ensures, c.refuse-n.ensures, c.is_size.ensures, half-size x.w) in
+    rw (c.refuse-n-2.ensures, c.is_size-2.ensures, c.refuse-n.ensures, c.is_size.ensures, half-size x.w) in
     let late : c.refuse-n-5.result ≡ first_refusal 0 (rest x.w x.q x.x.now x.point.now x.s.now) =
-        rw (c.refuse-n-5.ensures, c.refuse-n-4.ensures, c.log2.ensures.0, c.refuse-n-3.ensures) in
+    rw (c.refuse-n-5.ensures, c.refuse-n-4.ensures, c.log2.ensures.0, c.refuse-n-3.ensures) in
     let m = small x.w x.q _ early c.if-n-ne0.false in
     let f = fits x.w x.q x.x.now x.point.now x.s.now _ late c.if-n-ne0-2.false in
     let e = sym c.if-n-ne0-2.false ∙ first-refusal-late (first x.w x.q) (rest x.w x.q x.x.now x.point.now x.s.now) _ _ early c.if-n-ne0.false late in

@@ -3,7 +3,6 @@ use borrow.Author.Tests.{ltb-true}
 use Rattle.magnetar_field.proofs.Product.{⊗-comm}
 use Rattle.magnetar_matrix.proofs.Digits.{value-lt, digit-⊗}
 use borrow.Author.Rules.{rules}
-use Rattle.magnetar_batch.proofs.fold.times.Reads as reads
 use Rattle.magnetar_batch.proofs.fold.times.Goals as goal
 
 pub returns-then-is_bit : goal.returns-then-is_bit

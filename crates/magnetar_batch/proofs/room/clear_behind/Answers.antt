@@ -2,7 +2,6 @@ use Rattle.std.specs.Prelude.{◌≡◌, ℕ, ◌-◌, List, ◌++◌, length, t
 use mathlib.Core.Path.{◌∙◌, ap}
 use lib.ListN.{length-drop}
 use Rattle.magnetar_batch.proofs.Rooms.{back-put, back-part}
-use borrow.Author.Rules.{rules}
 use Rattle.magnetar_batch.proofs.room.clear_behind.Goals as goal
 
 pub returns : goal.returns

@@ -1,5 +1,4 @@
 use Rattle.magnetar_batch.proofs.Rooms.{table-behind}
-use borrow.Author.Rules.{rules}
 use Rattle.magnetar_batch.proofs.room.eq_behind.Goals as goal
 
 pub returns : goal.returns

@@ -1,6 +1,5 @@
 use mathlib.Core.Path.{◌∙◌}
 use Rattle.magnetar_relation.specs.Steps.{column_added}
-use borrow.Author.Rules.{rules}
 use Rattle.magnetar_batch.proofs.table.add_column.Goals as goal
 
 pub returns : goal.returns

@@ -1,6 +1,5 @@
 use native.Mathlib.Omega.{arith}
 use Rattle.magnetar_batch.proofs.TableWalk.{cleared-behind-some, cleared-behind-none}
-use borrow.Author.Rules.{rules}
 use Rattle.magnetar_batch.proofs.table.clear_behind.Goals as goal
 
 pub returns-then-k-h : goal.returns-then-k-h

@@ -1,5 +1,4 @@
 use mathlib.Core.Path.{◌∙◌}
-use borrow.Author.Rules.{rules}
 use Rattle.magnetar_batch.proofs.table.eq_behind.Goals as goal
 
 pub returns : goal.returns

@@ -1,7 +1,6 @@
 use native.Mathlib.Omega.{arith}
 use Rattle.magnetar_field.specs.Gf128.{value}
 use Rattle.magnetar_batch.proofs.TableWalk.{eq-behind-read, eq-behind-none}
-use borrow.Author.Rules.{rules}
 use Rattle.magnetar_batch.proofs.table.eq_from.Goals as goal
 
 pub returns-then-m-s : goal.returns-then-m-s

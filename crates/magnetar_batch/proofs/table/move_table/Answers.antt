@@ -1,6 +1,5 @@
 use native.Mathlib.Omega.{arith}
 use Rattle.magnetar_batch.proofs.TableWalk.{moved, moved_none}
-use borrow.Author.Rules.{rules}
 use Rattle.magnetar_batch.proofs.table.move_table.Goals as goal
 
 pub returns-then-m-s : goal.returns-then-m-s

@@ -1,5 +1,4 @@
 use Rattle.magnetar_batch.proofs.ComboEnds.{half-short}
-use borrow.Author.Rules.{rules}
 use Rattle.magnetar_batch.proofs.table.refusal.Goals as goal
 
 pub returns : goal.returns

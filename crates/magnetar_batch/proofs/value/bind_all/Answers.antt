@@ -1,9 +1,8 @@
-use Rattle.std.specs.Prelude.{◌≡◌, ℕ, ◌*◌, ◌^◌, ◌<◌, ◌≤◌, length, get_or, replicate}
+use Rattle.std.specs.Prelude.{ℕ, replicate}
 use mathlib.Core.Path.{refl, sym, ap, ◌∙◌}
 use native.Mathlib.Omega.{arith}
-use Rattle.magnetar_field.specs.Words.{elements}
 use Rattle.magnetar_field.proofs.Elements.{elements-length, elements-below}
-use Rattle.magnetar_multilinear.proofs.Evaluating.{Evaluating, evaluating-start, evaluating-end}
+use Rattle.magnetar_multilinear.proofs.Evaluating.{evaluating-start, evaluating-end}
 use Rattle.magnetar_batch.proofs.ValueWalk.{bound-more, lower-room, half_room}
 use borrow.Author.Rules.{rules}
 use Rattle.magnetar_batch.proofs.value.bind_all.Goals as goal

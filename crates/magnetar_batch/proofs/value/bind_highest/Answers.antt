@@ -3,7 +3,6 @@ use native.Mathlib.Omega.{arith}
 use lib.ListN.{length-take}
 use Rattle.magnetar_field.specs.Gf128.{value}
 use Rattle.magnetar_batch.proofs.ValueWalk.{power, small_power, highest-bound}
-use borrow.Author.Rules.{rules}
 use Rattle.magnetar_batch.proofs.value.bind_highest.Goals as goal
 
 pub overflow_mul-e : goal.overflow_mul-e

@@ -1,6 +1,5 @@
 use native.Mathlib.Omega.{arith}
 use Rattle.magnetar_batch.proofs.ValueWalk.{both-over, both-fit}
-use borrow.Author.Rules.{rules}
 use Rattle.magnetar_batch.proofs.value.clear_both.Goals as goal
 
 pub returns-then-is_over : goal.returns-then-is_over

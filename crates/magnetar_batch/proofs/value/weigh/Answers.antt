@@ -1,4 +1,3 @@
-use borrow.Author.Rules.{rules}
 use Rattle.magnetar_batch.proofs.value.weigh.Goals as goal
 
 pub returns : goal.returns
