@@ -1,7 +1,7 @@
 -- The checks 27 to 29 as they are made, with the logarithms s, b, f, c of the logins, the rows of bin and fld, and the columns. Only the
 -- contracts of private functions speak of this.
 -- Assumes nothing.
-use Rattle.std.specs.Prelude.{◌≡◌, Bool, List, [], ◌∷◌, ◌++◌, ℕ, suc, ◌+◌, ◌-◌, ◌*◌, ◌/◌, ◌≤◌, ◌<◌, eqb, length, get_or}
+use Rattle.std.specs.Prelude.{◌≡◌, Bool, List, [], ◌∷◌, ◌++◌, ℕ, ◌+◌, ◌-◌, ◌*◌, ◌/◌, ◌≤◌, ◌<◌, eqb, length, get_or}
 use Rattle.magnetar_field.specs.Gf128.{◌⊕◌, ◌⊗◌}
 use Rattle.magnetar_field.specs.Sizes.{log₂}
 use Rattle.magnetar_multilinear.specs.Multilinear.{dot}

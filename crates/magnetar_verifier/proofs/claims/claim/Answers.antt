@@ -3,7 +3,6 @@ use Prim.Native.Nat.{◌+◌, ◌≤◌}
 use native.Mathlib.Omega.{arith}
 use borrow.Author.Tests.{lt-ltb, le-ltb}
 use Rattle.magnetar_verifier.specs.ClaimSteps.{claim_at}
-use borrow.Author.Rules.{rules}
 use Rattle.magnetar_verifier.proofs.claims.claim.Goals as goal
 
 pub returns-then-i-s : goal.returns-then-i-s

@@ -1,12 +1,12 @@
 use mathlib.Core.Path.{◌≡◌, refl, ap, ◌∙◌}
 use mathlib.Core.List.{append-nil}
-use Prim.Native.Nat.{◌-◌, ◌≤◌}
+use Prim.Native.Nat.{◌≤◌}
 use native.Mathlib.Omega.{arith}
 use lib.ListN.{length, drop_of_length-le}
 use Rattle.magnetar_field.specs.Gf128.{value}
 use Rattle.magnetar_field.specs.Words.{elements}
 use Rattle.magnetar_field.proofs.Elements.{elements-length, elements-stored}
-use Rattle.magnetar_field.proofs.Making.{Made, made_none, made_more}
+use Rattle.magnetar_field.proofs.Making.{made_none, made_more}
 use Rattle.magnetar_verifier.specs.ClaimSteps.{claim_at}
 use borrow.Author.Rules.{rules}
 use Rattle.magnetar_verifier.proofs.claims.fill.Goals as goal

@@ -1,14 +1,9 @@
-use mathlib.Core.Path.{◌≡◌, refl, ap, ◌∙◌}
-use mathlib.Core.List.{append-nil}
+use mathlib.Core.Path.{◌≡◌}
 use Prim.Native.Nat.{◌-◌, ◌≤◌}
-use native.Mathlib.Omega.{arith}
-use lib.ListN.{length, drop_of_length-le}
-use Rattle.magnetar_field.specs.Gf128.{value}
+use lib.ListN.{length}
 use Rattle.magnetar_field.specs.Words.{elements}
-use Rattle.magnetar_field.proofs.Elements.{elements-length, elements-stored}
-use Rattle.magnetar_field.proofs.Making.{Made, made_none, made_more}
+use Rattle.magnetar_field.proofs.Making.{Made}
 use Rattle.magnetar_verifier.specs.ClaimSteps.{claim_at}
-use borrow.Author.Rules.{rules}
 use Rattle.magnetar_verifier.proofs.claims.fill.Given as goal
 
 abbrev pub invariant-loop-i : goal.invariant-loop-i

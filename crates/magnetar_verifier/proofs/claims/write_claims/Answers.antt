@@ -6,7 +6,6 @@ use Rattle.magnetar_field.specs.Words.{elements, words}
 use Rattle.magnetar_field.proofs.Elements.{words-elements}
 use Rattle.magnetar_protocol.proofs.Guards.{outlined-given}
 use Rattle.magnetar_verifier.proofs.ClaimLaws.{claims-size, claims-refused, claims-fit, claims-written}
-use borrow.Author.Rules.{rules}
 use Rattle.magnetar_verifier.proofs.claims.write_claims.Goals as goal
 
 pub returns-then-y-ne0 : goal.returns-then-y-ne0

@@ -2,7 +2,6 @@ use mathlib.Core.Path.{refl, ◌∙◌}
 use Prim.Native.Nat.{◌*◌}
 use native.Mathlib.Omega.{arith}
 use Rattle.magnetar_verifier.proofs.EqNumbers.{behind}
-use borrow.Author.Rules.{rules}
 use Rattle.magnetar_verifier.proofs.end.add_segment.Goals as goal
 
 pub overflow_mul-a : goal.overflow_mul-a

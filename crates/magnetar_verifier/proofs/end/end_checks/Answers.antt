@@ -2,7 +2,6 @@ use native.Mathlib.Omega.{arith}
 use Rattle.magnetar_field.specs.Gf128.{value}
 use Rattle.magnetar_protocol.proofs.Guards.{outlined-given}
 use Rattle.magnetar_verifier.proofs.EndGuard.{end-front, end_refused, end_fits, end-answered}
-use borrow.Author.Rules.{rules}
 use Rattle.magnetar_verifier.proofs.end.end_checks.Goals as goal
 
 pub returns-then-y-ne0 : goal.returns-then-y-ne0

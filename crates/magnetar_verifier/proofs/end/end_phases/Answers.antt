@@ -3,13 +3,12 @@ use native.Mathlib.Omega.{arith}
 use Rattle.magnetar_field.specs.Gf128.{value}
 use Rattle.magnetar_field.specs.Words.{elements}
 use Rattle.magnetar_verifier.proofs.EndPhases.{Cols, cols, end-done}
-use borrow.Author.Rules.{rules}
 use Rattle.magnetar_verifier.proofs.end.end_phases.Goals as goal
 
 pub inner_rounds-run-requires : goal.inner_rounds-run-requires
 inner_rounds-run-requires c =
     let sizes : Cols c.args.m c.args.c =
-        cols c.args.m c.args.c c.requires.columns c.requires.cols in
+    cols c.args.m c.args.c c.requires.columns c.requires.cols in
     let g = c.requires in
     let k = sizes in
     (g.logins, g.bin, g.fld, omega (arith, k.small), omega (arith, g.exact), omega (arith, g.drawn))
@@ -20,7 +19,7 @@ identity_holds-z-requires c = c.requires
 pub overflow_add-events-9 : goal.overflow_add-events-9
 overflow_add-events-9 c =
     let sizes : Cols c.args.m c.args.c =
-        cols c.args.m c.args.c c.requires.columns c.requires.cols in
+    cols c.args.m c.args.c c.requires.columns c.requires.cols in
     omega (arith, (sizes).small, c.requires.logins, c.requires.bin, c.requires.fld)
 
 pub returns : goal.returns

@@ -1,12 +1,9 @@
 use mathlib.Core.Path.{◌∙◌}
-use Prim.Native.Nat.{◌-◌, ◌/◌}
 use native.Mathlib.Omega.{arith}
-use lib.ListN.{length}
 use Rattle.magnetar_field.specs.Gf128.{value}
 use Rattle.magnetar_field.specs.Words.{elements}
 use Rattle.magnetar_field.proofs.Elements.{elements-length}
-use Rattle.magnetar_verifier.proofs.EqNumbers.{Times, times-start, times_more, times-end}
-use borrow.Author.Rules.{rules}
+use Rattle.magnetar_verifier.proofs.EqNumbers.{times-start, times_more, times-end}
 use Rattle.magnetar_verifier.proofs.end.eq_number.Goals as goal
 
 pub loop-j-init : goal.loop-j-init

@@ -1,12 +1,8 @@
-use mathlib.Core.Path.{◌∙◌}
 use Prim.Native.Nat.{◌-◌, ◌/◌}
-use native.Mathlib.Omega.{arith}
 use lib.ListN.{length}
 use Rattle.magnetar_field.specs.Gf128.{value}
 use Rattle.magnetar_field.specs.Words.{elements}
-use Rattle.magnetar_field.proofs.Elements.{elements-length}
-use Rattle.magnetar_verifier.proofs.EqNumbers.{Times, times-start, times_more, times-end}
-use borrow.Author.Rules.{rules}
+use Rattle.magnetar_verifier.proofs.EqNumbers.{Times}
 use Rattle.magnetar_verifier.proofs.end.eq_number.Given as goal
 
 abbrev pub invariant-loop-j : goal.invariant-loop-j

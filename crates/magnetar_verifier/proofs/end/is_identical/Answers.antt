@@ -1,5 +1,4 @@
 use Rattle.magnetar_verifier.specs.EndSteps.{identical}
-use borrow.Author.Rules.{rules}
 use Rattle.magnetar_verifier.proofs.end.is_identical.Goals as goal
 
 pub returns : goal.returns

@@ -2,7 +2,6 @@ use mathlib.Core.Path.{ap, sym, ◌∙◌}
 use Rattle.magnetar_field.specs.Gf128.{value}
 use Rattle.magnetar_sumcheck_verifier.specs.Outcome.{RoundLeft}
 use Rattle.magnetar_sumcheck_verifier.proofs.Wanted.{check-sized}
-use borrow.Author.Rules.{rules}
 use Rattle.magnetar_verifier.proofs.found.round.Goals as goal
 
 pub returns : goal.returns

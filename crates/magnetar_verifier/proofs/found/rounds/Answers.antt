@@ -1,12 +1,12 @@
 use mathlib.Core.Path.{sym, ◌∙◌}
-use Prim.Native.Nat.{◌-◌, ◌+◌, ◌*◌, ◌≤◌, ◌<◌}
+use Prim.Native.Nat.{◌+◌, ◌*◌, ◌≤◌, ◌<◌}
 use native.Mathlib.Omega.{arith}
 use Rattle.magnetar_field.specs.Gf128.{value}
 use Rattle.magnetar_field.specs.Words.{elements}
 use Rattle.magnetar_protocol.specs.Proof.{part}
-use Rattle.magnetar_verifier.specs.Steps.{messages, round_checks}
+use Rattle.magnetar_verifier.specs.Steps.{messages}
 use Rattle.magnetar_verifier.proofs.Pieces.{message-within, part-get, part_length}
-use Rattle.magnetar_verifier.proofs.RoundLaws.{Going, going_start, going_more, going_end, messages-length, messages-get}
+use Rattle.magnetar_verifier.proofs.RoundLaws.{going_start, going_more, going_end, messages-length, messages-get}
 use borrow.Author.Rules.{rules}
 use Rattle.magnetar_verifier.proofs.found.rounds.Goals as goal
 
@@ -16,25 +16,25 @@ loop-j-init c = going_start _ _ _ _ _
 pub overflow_mul-width : goal.overflow_mul-width
 overflow_mul-width c =
     let within : let x = c.args in x.i + x.width * c.loop-j.j + x.width ≤ x.i + x.width * x.n =
-        let x = c.args in
-        let h : c.loop-j.j < x.n = omega arith in
-        message-within x.i x.width x.n c.loop-j.j h in
+    let x = c.args in
+    let h : c.loop-j.j < x.n = omega arith in
+    message-within x.i x.width x.n c.loop-j.j h in
     omega (arith, within)
 
 pub overflow_add-i : goal.overflow_add-i
 overflow_add-i c =
     let within : let x = c.args in x.i + x.width * c.loop-j.j + x.width ≤ x.i + x.width * x.n =
-        let x = c.args in
-        let h : c.loop-j.j < x.n = omega arith in
-        message-within x.i x.width x.n c.loop-j.j h in
+    let x = c.args in
+    let h : c.loop-j.j < x.n = omega arith in
+    message-within x.i x.width x.n c.loop-j.j h in
     omega (arith, within)
 
 pub piece-msg-requires : goal.piece-msg-requires
 piece-msg-requires c =
     let within : let x = c.args in x.i + x.width * c.loop-j.j + x.width ≤ x.i + x.width * x.n =
-        let x = c.args in
-        let h : c.loop-j.j < x.n = omega arith in
-        message-within x.i x.width x.n c.loop-j.j h in
+    let x = c.args in
+    let h : c.loop-j.j < x.n = omega arith in
+    message-within x.i x.width x.n c.loop-j.j h in
     omega (arith, within)
 
 pub loop-j-preserved : goal.loop-j-preserved

@@ -1,13 +1,9 @@
-use mathlib.Core.Path.{sym, ◌∙◌}
-use Prim.Native.Nat.{◌-◌, ◌+◌, ◌*◌, ◌≤◌, ◌<◌}
-use native.Mathlib.Omega.{arith}
+use Prim.Native.Nat.{◌-◌}
 use Rattle.magnetar_field.specs.Gf128.{value}
 use Rattle.magnetar_field.specs.Words.{elements}
 use Rattle.magnetar_protocol.specs.Proof.{part}
 use Rattle.magnetar_verifier.specs.Steps.{messages, round_checks}
-use Rattle.magnetar_verifier.proofs.Pieces.{message-within, part-get, part_length}
-use Rattle.magnetar_verifier.proofs.RoundLaws.{Going, going_start, going_more, going_end, messages-length, messages-get}
-use borrow.Author.Rules.{rules}
+use Rattle.magnetar_verifier.proofs.RoundLaws.{Going}
 use Rattle.magnetar_verifier.proofs.found.rounds.Given as goal
 
 abbrev pub invariant-loop-j : goal.invariant-loop-j

@@ -1,4 +1,3 @@
-use borrow.Author.Rules.{rules}
 use Rattle.magnetar_verifier.proofs.found.words_refusal.Goals as goal
 
 pub returns : goal.returns

@@ -1,5 +1,4 @@
 use Rattle.magnetar_verifier.proofs.Answers.{value-is, not-refused, points_none}
-use borrow.Author.Rules.{rules}
 use Rattle.magnetar_verifier.proofs.outer.eq_at.Goals as goal
 
 pub returns-in-Value : goal.returns-in-Value

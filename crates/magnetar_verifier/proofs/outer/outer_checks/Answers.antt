@@ -3,7 +3,6 @@ use lib.ListN.{length}
 use Rattle.magnetar_protocol.proofs.Guards.{outlined-given}
 use Rattle.magnetar_verifier.proofs.Guards.{given}
 use Rattle.magnetar_verifier.proofs.OuterAnswer.{outer-size, outer-refused, outer-answered}
-use borrow.Author.Rules.{rules}
 use Rattle.magnetar_verifier.proofs.outer.outer_checks.Goals as goal
 
 pub returns-then-y-ne0 : goal.returns-then-y-ne0
@@ -34,8 +33,7 @@ pub outer_phases-requires : goal.outer_phases-requires
 outer_phases-requires c =
     let x = c.args in
     let g = given c.log2-s.result c.log2-b.result c.log2-f.result c.log2-c.result (length x.lens.now) (length x.proof.now)
-    (length x.draws.now) 0 0 c.words_refusal-z.result c.words_refusal-z.ensures c.if-z-ne0.false in
-    (
+    (length x.draws.now) 0 0 c.words_refusal-z.result c.words_refusal-z.ensures c.if-z-ne0.false in (
       omega (arith, c.log2-s.ensures.1),
       omega (arith, c.log2-b.ensures.1),
       omega (arith, c.log2-f.ensures.1),

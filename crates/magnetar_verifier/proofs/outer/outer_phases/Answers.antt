@@ -1,6 +1,5 @@
 use Rattle.magnetar_field.specs.Words.{elements}
 use Rattle.magnetar_verifier.proofs.OuterPhases.{phases-done}
-use borrow.Author.Rules.{rules}
 use Rattle.magnetar_verifier.proofs.outer.outer_phases.Goals as goal
 
 pub returns : goal.returns

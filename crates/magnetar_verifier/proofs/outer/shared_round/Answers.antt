@@ -1,6 +1,5 @@
 use native.Mathlib.Numerals.{add-one}
 use mathlib.Core.Path.{◌∙◌}
-use borrow.Author.Rules.{rules}
 use Rattle.magnetar_verifier.proofs.outer.shared_round.Goals as goal
 
 pub returns : goal.returns

@@ -1,5 +1,5 @@
 use mathlib.Core.Path.{refl, sym}
-use Prim.Native.Nat.{◌+◌, ◌-◌, ◌*◌}
+use Prim.Native.Nat.{◌+◌, ◌*◌}
 use native.Mathlib.Omega.{arith}
 use lib.ListN.{get_or}
 use Rattle.magnetar_field.specs.Gf128.{value}
@@ -8,7 +8,7 @@ use Rattle.magnetar_protocol.specs.Proof.{part}
 use Rattle.magnetar_protocol.specs.Found.{nothing}
 use Rattle.magnetar_verifier.specs.Steps.{shared_bin, shared_fld}
 use Rattle.magnetar_verifier.proofs.Pieces.{part-get, part_length}
-use Rattle.magnetar_verifier.proofs.RoundLaws.{Sharing, sharing-start, sharing-more, sharing-end, bin-length, fld-length, bin-get, fld-get}
+use Rattle.magnetar_verifier.proofs.RoundLaws.{sharing-start, sharing-more, sharing-end, bin-length, fld-length, bin-get, fld-get}
 use borrow.Author.Rules.{rules}
 use Rattle.magnetar_verifier.proofs.outer.shared_rounds.Goals as goal
 

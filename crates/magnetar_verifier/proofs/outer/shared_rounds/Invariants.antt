@@ -1,15 +1,10 @@
-use mathlib.Core.Path.{refl, sym}
-use Prim.Native.Nat.{◌+◌, ◌-◌, ◌*◌}
-use native.Mathlib.Omega.{arith}
-use lib.ListN.{get_or}
+use Prim.Native.Nat.{◌-◌}
 use Rattle.magnetar_field.specs.Gf128.{value}
 use Rattle.magnetar_field.specs.Words.{elements}
 use Rattle.magnetar_protocol.specs.Proof.{part}
 use Rattle.magnetar_protocol.specs.Found.{nothing}
 use Rattle.magnetar_verifier.specs.Steps.{shared_bin, shared_fld}
-use Rattle.magnetar_verifier.proofs.Pieces.{part-get, part_length}
-use Rattle.magnetar_verifier.proofs.RoundLaws.{Sharing, sharing-start, sharing-more, sharing-end, bin-length, fld-length, bin-get, fld-get}
-use borrow.Author.Rules.{rules}
+use Rattle.magnetar_verifier.proofs.RoundLaws.{Sharing}
 use Rattle.magnetar_verifier.proofs.outer.shared_rounds.Given as goal
 
 abbrev pub invariant-loop-j : goal.invariant-loop-j

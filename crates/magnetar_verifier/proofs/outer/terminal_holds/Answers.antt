@@ -1,5 +1,4 @@
 use Rattle.magnetar_verifier.specs.Steps.{terminal_holds}
-use borrow.Author.Rules.{rules}
 use Rattle.magnetar_verifier.proofs.outer.terminal_holds.Goals as goal
 
 pub returns : goal.returns

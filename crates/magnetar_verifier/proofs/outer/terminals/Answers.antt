@@ -1,5 +1,4 @@
 use mathlib.Core.Path.{◌∙◌}
-use borrow.Author.Rules.{rules}
 use Rattle.magnetar_verifier.proofs.outer.terminals.Goals as goal
 
 pub returns : goal.returns
