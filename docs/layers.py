@@ -58,7 +58,7 @@ def listed():
     for line in (TOP / "crates.txt").read_text().splitlines():
         if line and not line.startswith("#"):
             name, _, rest = line.partition(":")
-            found[name.strip()] = rest.split()
+            found[name.split()[0]] = rest.split()
     return found
 
 

@@ -16,7 +16,7 @@ use std::io;
 // The query by name: its letters, the last one lowest.
 const DIGEST: u64 = 0x646967657374;
 
-// The digest over the first n records of an array. This function is proved by a walk (tools/thin.py).
+// The digest over the first n records of an array.
 fn lent(m: usize, q: usize, lens: &[usize], sh: Shapes, es: [Entry; 384], n: usize) -> DigestAnswer
     ensures { result ≡ digest_answer (rules_over m q lens.now sh (entries_of_records (take (min n 384) es))) }
 {

@@ -1,5 +1,4 @@
 // The first n records of an array, and a transcript by value, lent to the entries over records.
-// These functions are proved by walks (tools/thin.py).
 ghost use Rattle.std.specs.Prelude.{◌≡◌, min, [], take};
 ghost use Rattle.magnetar_r1cs.specs.Entries.{masks_refusal, masks_out};
 ghost use Rattle.magnetar_relation.specs.Rules.{rules_over};
