@@ -1,5 +1,4 @@
 use Rattle.magnetar_prover.proofs.EqTablePlaced.{eq-table-placed}
-use borrow.Author.Rules.{rules}
 use lib.Seq.{length-take-le}
 use mathlib.Core.Path.{sym}
 use native.Mathlib.Omega.{arith}

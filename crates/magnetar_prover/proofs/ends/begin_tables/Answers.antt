@@ -2,7 +2,6 @@ use Prim.Native.Nat.{◌*◌}
 use Rattle.magnetar_field.specs.Words.{elements}
 use Rattle.magnetar_prover.proofs.EqTablePlaced.{both-fit, bin-placed, fld-placed}
 use Rattle.magnetar_prover.proofs.Slots.{part-size}
-use borrow.Author.Rules.{rules}
 use lib.ListN.{length, take, drop}
 use lib.Seq.{length-take-le}
 use mathlib.Core.List.{◌++◌}
@@ -15,9 +14,9 @@ slice_bounds-begin_table-end-2 c = sym (length-take-le _ _ (omega arith))
 
 pub begin_table-requires : goal.begin_table-requires
 begin_table-requires c = record {
-      o_bound = (omega arith, omega arith, omega arith, length-take-le _ _ (omega arith), omega arith);
-      w_value = c.requires.wb_value.0;
-    }
+  o_bound = (omega arith, omega arith, omega arith, length-take-le _ _ (omega arith), omega arith);
+  w_value = c.requires.wb_value.0;
+}
 
 pub returns : goal.returns
 returns c = let x = c.args in

@@ -1,5 +1,4 @@
 use Rattle.magnetar_prover.proofs.EqTablePlaced.{three-sent}
-use borrow.Author.Rules.{rules}
 use Rattle.magnetar_prover.proofs.ends.send_block.Goals as goal
 
 pub returns : goal.returns

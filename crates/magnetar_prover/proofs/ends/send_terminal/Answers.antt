@@ -4,7 +4,6 @@ use Rattle.magnetar_field.specs.Words.{elements}
 use Rattle.magnetar_schedule.specs.Schedule.{numbered}
 use Rattle.magnetar_prover.proofs.Sent.{drawn-more, one-absorbed}
 use Rattle.magnetar_prover.specs.InScratch.{absorbed_one}
-use borrow.Author.Rules.{rules}
 use lib.ListN.{take}
 use mathlib.Core.List.{[], ◌++◌, ◌∷◌}
 use mathlib.Core.Path.{◌∙◌, ap}

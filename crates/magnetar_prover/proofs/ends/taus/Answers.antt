@@ -1,6 +1,5 @@
 use Rattle.magnetar_hash.specs.Bytes.{ascii}
 use Rattle.magnetar_prover.proofs.Drawn.{drawn-both-times}
-use borrow.Author.Rules.{rules}
 use lib.Seq.{length-take-le}
 use mathlib.Core.Path.{sym}
 use native.Mathlib.Omega.{arith}

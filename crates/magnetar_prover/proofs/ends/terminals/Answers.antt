@@ -1,5 +1,4 @@
 use Rattle.magnetar_prover.proofs.EqTablePlaced.{six-sent}
-use borrow.Author.Rules.{rules}
 use Rattle.magnetar_prover.proofs.ends.terminals.Goals as goal
 
 pub returns : goal.returns

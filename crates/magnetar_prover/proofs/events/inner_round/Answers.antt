@@ -2,7 +2,6 @@ use mathlib.Core.Path.{ap, ◌∙◌}
 use Rattle.magnetar_hash.specs.Bytes.{ascii}
 use Rattle.magnetar_hash.specs.declared.transcript.Transcript.{Transcript}
 use Rattle.magnetar_hash.specs.Transcript.{drawn}
-use borrow.Author.Rules.{rules}
 use Rattle.magnetar_prover.proofs.events.inner_round.Goals as goal
 
 pub returns : goal.returns

@@ -1,6 +1,5 @@
-use lib.ListN.{length-set}
 use native.Mathlib.Omega.{arith}
-use Rattle.magnetar_prover.proofs.Spelling.{Spelt, spelt-start, spelt-more, spelt-end}
+use Rattle.magnetar_prover.proofs.Spelling.{spelt-start, spelt-more, spelt-end}
 use borrow.Author.Rules.{rules}
 use Rattle.magnetar_prover.proofs.events.put_digits.Goals as goal
 

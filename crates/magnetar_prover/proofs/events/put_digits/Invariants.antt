@@ -1,7 +1,4 @@
-use lib.ListN.{length-set}
-use native.Mathlib.Omega.{arith}
-use Rattle.magnetar_prover.proofs.Spelling.{Spelt, spelt-start, spelt-more, spelt-end}
-use borrow.Author.Rules.{rules}
+use Rattle.magnetar_prover.proofs.Spelling.{Spelt}
 use Rattle.magnetar_prover.proofs.events.put_digits.Given as goal
 
 abbrev pub invariant-loop-rest : goal.invariant-loop-rest

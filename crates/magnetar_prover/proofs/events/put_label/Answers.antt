@@ -1,6 +1,5 @@
 use Prim.Native.Nat.{◌≤◌}
 use native.Mathlib.Omega.{arith}
-use borrow.Author.Rules.{rules}
 use Rattle.magnetar_prover.proofs.events.put_label.Goals as goal
 
 pub returns : goal.returns

@@ -1,7 +1,5 @@
-use Prim.Native.Nat.{◌≤◌}
 use native.Mathlib.Omega.{arith}
-use lib.ListN.{length}
-use Rattle.magnetar_prover.proofs.Spelling.{Prefixed, prefixed-start, prefixed-more, prefixed-end}
+use Rattle.magnetar_prover.proofs.Spelling.{prefixed-start, prefixed-more, prefixed-end}
 use borrow.Author.Rules.{rules}
 use Rattle.magnetar_prover.proofs.events.put_prefix.Goals as goal
 

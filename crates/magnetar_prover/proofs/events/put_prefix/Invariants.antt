@@ -1,8 +1,6 @@
 use Prim.Native.Nat.{◌≤◌}
-use native.Mathlib.Omega.{arith}
 use lib.ListN.{length}
-use Rattle.magnetar_prover.proofs.Spelling.{Prefixed, prefixed-start, prefixed-more, prefixed-end}
-use borrow.Author.Rules.{rules}
+use Rattle.magnetar_prover.proofs.Spelling.{Prefixed}
 use Rattle.magnetar_prover.proofs.events.put_prefix.Given as goal
 
 abbrev pub invariant-loop-j : goal.invariant-loop-j

@@ -1,4 +1,3 @@
-use borrow.Author.Rules.{rules}
 use Rattle.magnetar_prover.proofs.events.round.Goals as goal
 
 pub returns : goal.returns

@@ -1,6 +1,5 @@
 use Rattle.magnetar_hash.specs.Bytes.{ascii}
 use Rattle.magnetar_schedule.specs.Schedule.{numbered}
-use borrow.Author.Rules.{rules}
 use Rattle.magnetar_prover.proofs.events.shared_round.Goals as goal
 
 pub returns : goal.returns

@@ -1,5 +1,4 @@
 use Rattle.magnetar_hash.specs.Bytes.{ascii}
-use borrow.Author.Rules.{rules}
 use Rattle.magnetar_prover.proofs.events.tau.Goals as goal
 
 pub returns-then-bin : goal.returns-then-bin

@@ -2,7 +2,6 @@ use mathlib.Core.Path.{sym, refl, ◌∙◌}
 use Rattle.magnetar_layout.proofs.FirstRefusal.{first-refusal-front, first-refusal-late}
 use Rattle.magnetar_prover.proofs.OuterGuard.{counts_of, product-fits}
 use Rattle.magnetar_prover.specs.Entries.{count_tests, total_tests}
-use borrow.Author.Rules.{rules}
 use Rattle.magnetar_prover.proofs.guard.of_counts.Goals as goal
 
 pub returns-then-z-ne0 : goal.returns-then-z-ne0

@@ -5,7 +5,6 @@ use Rattle.magnetar_layout.specs.Tests.{Tests, column_tests, layout_tests, room_
 use Rattle.magnetar_prover.proofs.Guarded.{sizes-of}
 use Rattle.magnetar_protocol.specs.RunTests.{counter_tests}
 use Rattle.magnetar_prover.specs.Entries.{inner_rounds_refusal}
-use borrow.Author.Rules.{rules}
 use lib.ListN.{length}
 use mathlib.Core.List.{◌++◌}
 use mathlib.Core.Path.{◌∙◌, sym}
@@ -16,11 +15,11 @@ pub returns-then-z-ne0 : goal.returns-then-z-ne0
 unfolding inner_rounds_refusal
 returns-then-z-ne0 c =
     let first : Tests =
-        let x = c.args in column_tests x.m ++ layout_tests (x.m / 2) x.lens.now in
+    let x = c.args in column_tests x.m ++ layout_tests (x.m / 2) x.lens.now in
     let rest : Tests =
-        let x = c.args in
-        counter_tests x.t.squeeze_ctr ++ (room_test (2 * log₂ x.m) x.draws.now ++ room_test (2 * (3 * log₂ x.m + 1 + length x.lens.now)) x.proof.now
-        ++ room_test (6 * x.m) x.s.now) in
+    let x = c.args in
+    counter_tests x.t.squeeze_ctr ++ (room_test (2 * log₂ x.m) x.draws.now ++ room_test (2 * (3 * log₂ x.m + 1 + length x.lens.now)) x.proof.now
+    ++ room_test (6 * x.m) x.s.now) in
     first-refusal-front first rest _ c.of_sizes-z.ensures c.if-z-ne0.true
 
 pub overflow_mul-k : goal.overflow_mul-k
@@ -57,11 +56,11 @@ pub returns : goal.returns
 unfolding inner_rounds_refusal
 returns c =
     let first : Tests =
-        let x = c.args in column_tests x.m ++ layout_tests (x.m / 2) x.lens.now in
+    let x = c.args in column_tests x.m ++ layout_tests (x.m / 2) x.lens.now in
     let rest : Tests =
-        let x = c.args in
-        counter_tests x.t.squeeze_ctr ++ (room_test (2 * log₂ x.m) x.draws.now ++ room_test (2 * (3 * log₂ x.m + 1 + length x.lens.now)) x.proof.now
-        ++ room_test (6 * x.m) x.s.now) in
+    let x = c.args in
+    counter_tests x.t.squeeze_ctr ++ (room_test (2 * log₂ x.m) x.draws.now ++ room_test (2 * (3 * log₂ x.m + 1 + length x.lens.now)) x.proof.now
+    ++ room_test (6 * x.m) x.s.now) in
     first-refusal-late first rest _ _ c.of_sizes-z.ensures c.if-z-ne0.false (rw (
       c.refuse.ensures,
       c.refuse-y-2.ensures,

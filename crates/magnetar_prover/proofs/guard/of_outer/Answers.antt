@@ -8,7 +8,6 @@ use Rattle.magnetar_layout.proofs.FirstRefusal.{first-refusal-front, first-refus
 use Rattle.magnetar_prover.proofs.OuterGuard.{totals-of, logins-few, bin_few, fld_few}
 use Rattle.magnetar_protocol.specs.RunTests.{counter_tests}
 use Rattle.magnetar_prover.specs.Entries.{count_tests, total_tests, outer_drawn, outer_sent, block_words, outer_rounds_refusal}
-use borrow.Author.Rules.{rules}
 use Rattle.magnetar_prover.proofs.guard.of_outer.Goals as goal
 
 pub returns-then-z-ne0 : goal.returns-then-z-ne0

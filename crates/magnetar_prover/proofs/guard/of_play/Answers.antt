@@ -6,7 +6,6 @@ use Rattle.magnetar_field.specs.Sizes.{log₂}
 use Rattle.magnetar_protocol.proofs.Guards.{outlined-given}
 use Rattle.magnetar_prover.specs.Entries.{outer_drawn, outer_sent}
 use Rattle.magnetar_prover.proofs.PlayGuard.{play-size, play-words}
-use borrow.Author.Rules.{rules}
 use Rattle.magnetar_prover.proofs.guard.of_play.Goals as goal
 
 pub returns-then-z-ne0 : goal.returns-then-z-ne0
@@ -25,78 +24,78 @@ sent_words-a-requires c =
 pub overflow_mul-c : goal.overflow_mul-c
 overflow_mul-c c =
     let small : (c.log2-c.result < 64) × (c.drawn_words-d.result ≤ 2048) × (c.sent_words-a.result ≤ 4096) × (length c.args.lens.now ≤ 64) =
-        let x = c.args in (
-          omega (arith, c.log2-c.ensures.1),
-          omega (arith, c.drawn_words-d.ensures, c.log2.ensures.1, c.log2-2.ensures.1, c.log2-3.ensures.1),
-          omega (arith, c.sent_words-a.ensures, c.log2-4.ensures.1, c.log2-5.ensures.1, c.log2-6.ensures.1),
-          (outlined-given x.m x.q x.rb x.rf x.lens.now _ c.outline_refusal-z.ensures c.if-z-ne0.false).few,
-        ) in
+    let x = c.args in (
+      omega (arith, c.log2-c.ensures.1),
+      omega (arith, c.drawn_words-d.ensures, c.log2.ensures.1, c.log2-2.ensures.1, c.log2-3.ensures.1),
+      omega (arith, c.sent_words-a.ensures, c.log2-4.ensures.1, c.log2-5.ensures.1, c.log2-6.ensures.1),
+      (outlined-given x.m x.q x.rb x.rf x.lens.now _ c.outline_refusal-z.ensures c.if-z-ne0.false).few,
+    ) in
     omega (arith, small.0)
 
 pub overflow_add-d : goal.overflow_add-d
 overflow_add-d c =
     let small : (c.log2-c.result < 64) × (c.drawn_words-d.result ≤ 2048) × (c.sent_words-a.result ≤ 4096) × (length c.args.lens.now ≤ 64) =
-        let x = c.args in (
-          omega (arith, c.log2-c.ensures.1),
-          omega (arith, c.drawn_words-d.ensures, c.log2.ensures.1, c.log2-2.ensures.1, c.log2-3.ensures.1),
-          omega (arith, c.sent_words-a.ensures, c.log2-4.ensures.1, c.log2-5.ensures.1, c.log2-6.ensures.1),
-          (outlined-given x.m x.q x.rb x.rf x.lens.now _ c.outline_refusal-z.ensures c.if-z-ne0.false).few,
-        ) in
+    let x = c.args in (
+      omega (arith, c.log2-c.ensures.1),
+      omega (arith, c.drawn_words-d.ensures, c.log2.ensures.1, c.log2-2.ensures.1, c.log2-3.ensures.1),
+      omega (arith, c.sent_words-a.ensures, c.log2-4.ensures.1, c.log2-5.ensures.1, c.log2-6.ensures.1),
+      (outlined-given x.m x.q x.rb x.rf x.lens.now _ c.outline_refusal-z.ensures c.if-z-ne0.false).few,
+    ) in
     omega (arith, small.0, small.1)
 
 pub overflow_mul-c-2 : goal.overflow_mul-c-2
 overflow_mul-c-2 c =
     let small : (c.log2-c.result < 64) × (c.drawn_words-d.result ≤ 2048) × (c.sent_words-a.result ≤ 4096) × (length c.args.lens.now ≤ 64) =
-        let x = c.args in (
-          omega (arith, c.log2-c.ensures.1),
-          omega (arith, c.drawn_words-d.ensures, c.log2.ensures.1, c.log2-2.ensures.1, c.log2-3.ensures.1),
-          omega (arith, c.sent_words-a.ensures, c.log2-4.ensures.1, c.log2-5.ensures.1, c.log2-6.ensures.1),
-          (outlined-given x.m x.q x.rb x.rf x.lens.now _ c.outline_refusal-z.ensures c.if-z-ne0.false).few,
-        ) in
+    let x = c.args in (
+      omega (arith, c.log2-c.ensures.1),
+      omega (arith, c.drawn_words-d.ensures, c.log2.ensures.1, c.log2-2.ensures.1, c.log2-3.ensures.1),
+      omega (arith, c.sent_words-a.ensures, c.log2-4.ensures.1, c.log2-5.ensures.1, c.log2-6.ensures.1),
+      (outlined-given x.m x.q x.rb x.rf x.lens.now _ c.outline_refusal-z.ensures c.if-z-ne0.false).few,
+    ) in
     omega (arith, small.0, small.3)
 
 pub overflow_add-c : goal.overflow_add-c
 overflow_add-c c =
     let small : (c.log2-c.result < 64) × (c.drawn_words-d.result ≤ 2048) × (c.sent_words-a.result ≤ 4096) × (length c.args.lens.now ≤ 64) =
-        let x = c.args in (
-          omega (arith, c.log2-c.ensures.1),
-          omega (arith, c.drawn_words-d.ensures, c.log2.ensures.1, c.log2-2.ensures.1, c.log2-3.ensures.1),
-          omega (arith, c.sent_words-a.ensures, c.log2-4.ensures.1, c.log2-5.ensures.1, c.log2-6.ensures.1),
-          (outlined-given x.m x.q x.rb x.rf x.lens.now _ c.outline_refusal-z.ensures c.if-z-ne0.false).few,
-        ) in
+    let x = c.args in (
+      omega (arith, c.log2-c.ensures.1),
+      omega (arith, c.drawn_words-d.ensures, c.log2.ensures.1, c.log2-2.ensures.1, c.log2-3.ensures.1),
+      omega (arith, c.sent_words-a.ensures, c.log2-4.ensures.1, c.log2-5.ensures.1, c.log2-6.ensures.1),
+      (outlined-given x.m x.q x.rb x.rf x.lens.now _ c.outline_refusal-z.ensures c.if-z-ne0.false).few,
+    ) in
     omega (arith, small.0, small.3)
 
 pub overflow_add-c-2 : goal.overflow_add-c-2
 overflow_add-c-2 c =
     let small : (c.log2-c.result < 64) × (c.drawn_words-d.result ≤ 2048) × (c.sent_words-a.result ≤ 4096) × (length c.args.lens.now ≤ 64) =
-        let x = c.args in (
-          omega (arith, c.log2-c.ensures.1),
-          omega (arith, c.drawn_words-d.ensures, c.log2.ensures.1, c.log2-2.ensures.1, c.log2-3.ensures.1),
-          omega (arith, c.sent_words-a.ensures, c.log2-4.ensures.1, c.log2-5.ensures.1, c.log2-6.ensures.1),
-          (outlined-given x.m x.q x.rb x.rf x.lens.now _ c.outline_refusal-z.ensures c.if-z-ne0.false).few,
-        ) in
+    let x = c.args in (
+      omega (arith, c.log2-c.ensures.1),
+      omega (arith, c.drawn_words-d.ensures, c.log2.ensures.1, c.log2-2.ensures.1, c.log2-3.ensures.1),
+      omega (arith, c.sent_words-a.ensures, c.log2-4.ensures.1, c.log2-5.ensures.1, c.log2-6.ensures.1),
+      (outlined-given x.m x.q x.rb x.rf x.lens.now _ c.outline_refusal-z.ensures c.if-z-ne0.false).few,
+    ) in
     omega (arith, small.0, small.3)
 
 pub overflow_mul-c-3 : goal.overflow_mul-c-3
 overflow_mul-c-3 c =
     let small : (c.log2-c.result < 64) × (c.drawn_words-d.result ≤ 2048) × (c.sent_words-a.result ≤ 4096) × (length c.args.lens.now ≤ 64) =
-        let x = c.args in (
-          omega (arith, c.log2-c.ensures.1),
-          omega (arith, c.drawn_words-d.ensures, c.log2.ensures.1, c.log2-2.ensures.1, c.log2-3.ensures.1),
-          omega (arith, c.sent_words-a.ensures, c.log2-4.ensures.1, c.log2-5.ensures.1, c.log2-6.ensures.1),
-          (outlined-given x.m x.q x.rb x.rf x.lens.now _ c.outline_refusal-z.ensures c.if-z-ne0.false).few,
-        ) in
+    let x = c.args in (
+      omega (arith, c.log2-c.ensures.1),
+      omega (arith, c.drawn_words-d.ensures, c.log2.ensures.1, c.log2-2.ensures.1, c.log2-3.ensures.1),
+      omega (arith, c.sent_words-a.ensures, c.log2-4.ensures.1, c.log2-5.ensures.1, c.log2-6.ensures.1),
+      (outlined-given x.m x.q x.rb x.rf x.lens.now _ c.outline_refusal-z.ensures c.if-z-ne0.false).few,
+    ) in
     omega (arith, small.0, small.3)
 
 pub overflow_add-a : goal.overflow_add-a
 overflow_add-a c =
     let small : (c.log2-c.result < 64) × (c.drawn_words-d.result ≤ 2048) × (c.sent_words-a.result ≤ 4096) × (length c.args.lens.now ≤ 64) =
-        let x = c.args in (
-          omega (arith, c.log2-c.ensures.1),
-          omega (arith, c.drawn_words-d.ensures, c.log2.ensures.1, c.log2-2.ensures.1, c.log2-3.ensures.1),
-          omega (arith, c.sent_words-a.ensures, c.log2-4.ensures.1, c.log2-5.ensures.1, c.log2-6.ensures.1),
-          (outlined-given x.m x.q x.rb x.rf x.lens.now _ c.outline_refusal-z.ensures c.if-z-ne0.false).few,
-        ) in
+    let x = c.args in (
+      omega (arith, c.log2-c.ensures.1),
+      omega (arith, c.drawn_words-d.ensures, c.log2.ensures.1, c.log2-2.ensures.1, c.log2-3.ensures.1),
+      omega (arith, c.sent_words-a.ensures, c.log2-4.ensures.1, c.log2-5.ensures.1, c.log2-6.ensures.1),
+      (outlined-given x.m x.q x.rb x.rf x.lens.now _ c.outline_refusal-z.ensures c.if-z-ne0.false).few,
+    ) in
     omega (arith, small.0, small.2, small.3)
 
 pub returns : goal.returns

@@ -1,11 +1,10 @@
 use mathlib.Core.Path.{sym}
-use Prim.Native.Nat.{◌+◌, ◌-◌, ◌*◌, ◌≤◌}
+use Prim.Native.Nat.{◌+◌, ◌*◌, ◌≤◌}
 use native.Mathlib.Omega.{arith}
 use lib.ListN.{length}
 use lib.Seq.{length-take-le}
 use Rattle.magnetar_field.specs.Gf128.{value}
 use Rattle.magnetar_prover.proofs.Bound.{two-bound}
-use borrow.Author.Rules.{rules}
 use Rattle.magnetar_prover.proofs.inner.bind.Goals as goal
 
 pub slice_bounds-bind_var-end-2 : goal.slice_bounds-bind_var-end-2

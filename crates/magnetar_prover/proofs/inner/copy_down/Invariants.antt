@@ -1,10 +1,7 @@
 use Prim.Native.Nat.{◌*◌, ◌-◌, ◌≤◌}
-use Rattle.magnetar_prover.proofs.LaidOut.{copied_more}
-use borrow.Author.Rules.{rules}
-use lib.ListN.{length, length-set}
-use lib.Seq.{paste, paste-zero}
-use mathlib.Core.Path.{◌∙◌, ◌≡◌, refl}
-use native.Mathlib.Omega.{arith}
+use lib.ListN.{length}
+use lib.Seq.{paste}
+use mathlib.Core.Path.{◌≡◌}
 use Rattle.magnetar_prover.proofs.inner.copy_down.Given as goal
 
 abbrev pub invariant-loop-i : goal.invariant-loop-i

@@ -6,7 +6,6 @@ use Rattle.magnetar_layout.proofs.FirstRefusal.{done, turned}
 use Rattle.magnetar_prover.proofs.Entered.{entered, laid-over}
 use Rattle.magnetar_prover.proofs.Guarded.{inner-fits, ready}
 use Rattle.magnetar_prover.specs.Entries.{inner_rounds_refusal}
-use borrow.Author.Rules.{rules}
 use lib.ListN.{length, take}
 use lib.Seq.{length-take-le}
 use mathlib.Core.Path.{◌∙◌, ◌≡◌, ap, ap₂, refl, sym}
@@ -15,11 +14,11 @@ use Rattle.magnetar_prover.proofs.inner.inner_rounds.Goals as goal
 
 pub returns-then-z-ne0 : goal.returns-then-z-ne0
 returns-then-z-ne0 c = let x = c.args in let e = c.of_inner-z.ensures in record {
-      answer = ap₂ (λ (n : ℕ) (u : Transcript). record { code = n; transcript = u }) e (turned _ x.t e c.if-z-ne0.true);
-      proof = turned _ x.proof.now e c.if-z-ne0.true;
-      draws = turned _ x.draws.now e c.if-z-ne0.true;
-      scratch = turned _ x.s.now e c.if-z-ne0.true;
-    }
+  answer = ap₂ (λ (n : ℕ) (u : Transcript). record { code = n; transcript = u }) e (turned _ x.t e c.if-z-ne0.true);
+  proof = turned _ x.proof.now e c.if-z-ne0.true;
+  draws = turned _ x.draws.now e c.if-z-ne0.true;
+  scratch = turned _ x.s.now e c.if-z-ne0.true;
+}
 
 pub overflow_mul-a : goal.overflow_mul-a
 overflow_mul-a c = let x = c.args in let f = inner-fits x.m x.lens.now x.proof.now x.draws.now x.s.now x.t (sym c.of_inner-z.ensures ∙ c.if-z-ne0.false)
@@ -81,12 +80,12 @@ run-u-requires c = let x = c.args
     let l : length (take (6 * x.m) x.s.now) ≡ 12 * (x.m / 2) = length-take-le (6 * x.m) x.s.now f.scratch ∙ omega (arith, r.double) in record {
       s_len = (l, r.some, r.most, r.rounds, r.few);
       draws_len = (
-          length-take-le (2 * c.log2-k.result) x.draws.now (omega (arith, k, f.drawn)),
-          z.segments,
-          length-take-le (2 * (3 * c.log2-k.result +
-              1 + length x.lens.now)) x.proof.now (omega (arith, k, f.sent)),
-          z.layout,
-        );
+        length-take-le (2 * c.log2-k.result) x.draws.now (omega (arith, k, f.drawn)),
+        z.segments,
+        length-take-le (2 * (3 * c.log2-k.result +
+            1 + length x.lens.now)) x.proof.now (omega (arith, k, f.sent)),
+        z.layout,
+      );
       w_value = (r.power, r.locals);
     }
 
@@ -103,7 +102,7 @@ returns c = let x = c.args in let f = inner-fits x.m x.lens.now x.proof.now x.dr
     let l : length (take (6 * x.m) x.s.now) ≡ 6 * x.m = length-take-le _ _ f.scratch in record {
       answer = ap₂ (λ (n : ℕ) (u : Transcript). record { code = n; transcript = u }) e (ap (λ (p : Steps). p.run_state.transcript) q ∙ done _ x.t e refl);
       proof = laid-over c.run-u.new.proof x.proof.now (2 * (3 * c.log2-k.result + 1 + length x.lens.now)) (3 * c.log2-k.result + 1 + length x.lens.now) refl a (omega (arith, k, f.sent)) (λ
-            i. omega (arith, c.type_inv.proof i)) ∙ (ap (λ (p : Steps). overlaid (words p.sent) x.proof.now) q ∙ done _ x.proof.now e refl);
+          i. omega (arith, c.type_inv.proof i)) ∙ (ap (λ (p : Steps). overlaid (words p.sent) x.proof.now) q ∙ done _ x.proof.now e refl);
       draws = laid-over c.run-u.new.draws x.draws.now (2 * c.log2-k.result) c.log2-k.result refl d (omega (arith, k, f.drawn)) (λ i. omega (arith, c.type_inv.draws i)) ∙ (ap (λ (p : Steps). overlaid (words p.run_state.draws) x.draws.now) q ∙ done _ x.draws.now e refl);
       scratch = rw (c.run-u.ensures.cleared, l) (done _ x.s.now e refl);
     }

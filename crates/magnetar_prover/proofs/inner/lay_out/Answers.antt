@@ -1,5 +1,4 @@
 use Rattle.magnetar_prover.proofs.LaidOut.{laid-copy, laid_table, laid-z}
-use borrow.Author.Rules.{rules}
 use Rattle.magnetar_prover.proofs.inner.lay_out.Goals as goal
 
 pub returns : goal.returns

@@ -8,7 +8,6 @@ use Rattle.magnetar_field.specs.Words.{elements, words}
 use Rattle.magnetar_sumcheck_verifier.specs.Inner.{inner_message}
 use Rattle.magnetar_prover.proofs.Slots.{part-is, part-size}
 use Rattle.magnetar_prover.proofs.Whole.{inner-written}
-use borrow.Author.Rules.{rules}
 use Rattle.magnetar_prover.proofs.inner.message.Goals as goal
 
 pub slice_bounds-inner_message-end : goal.slice_bounds-inner_message-end

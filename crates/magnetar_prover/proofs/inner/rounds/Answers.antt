@@ -1,9 +1,6 @@
-use Prim.Native.Nat.{◌*◌, ◌-◌, ◌≤◌}
-use Rattle.magnetar_prover.proofs.InnerSteps.{Inners, inners-end, inners-next, inners-start, inners-table}
-use Rattle.magnetar_prover.specs.InScratch.{inner_in}
+use Rattle.magnetar_prover.proofs.InnerSteps.{inners-end, inners-next, inners-start, inners-table}
 use borrow.Author.Rules.{rules}
-use lib.ListN.{length}
-use mathlib.Core.Path.{◌≡◌, refl}
+use mathlib.Core.Path.{refl}
 use native.Mathlib.Omega.{arith}
 use Rattle.magnetar_prover.proofs.inner.rounds.Goals as goal
 
@@ -12,11 +9,11 @@ loop-i-init c = let x = c.args in (search rules, refl, refl, refl, omega arith, 
 
 pub round-v-requires : goal.round-v-requires
 round-v-requires c = let l = c.loop-i in record {
-      s_len = (omega arith, omega arith, l.invariant.4);
-      table = inners-table l.invariant.5 (omega
-        arith) (omega arith);
-      i_bound = (omega arith, omega arith, omega arith);
-    }
+  s_len = (omega arith, omega arith, l.invariant.4);
+  table = inners-table l.invariant.5 (omega
+      arith) (omega arith);
+  i_bound = (omega arith, omega arith, omega arith);
+}
 
 pub loop-i-preserved : goal.loop-i-preserved
 loop-i-preserved c = let l = c.loop-i in

@@ -1,10 +1,8 @@
 use Prim.Native.Nat.{◌*◌, ◌-◌, ◌≤◌}
-use Rattle.magnetar_prover.proofs.InnerSteps.{Inners, inners-end, inners-next, inners-start, inners-table}
+use Rattle.magnetar_prover.proofs.InnerSteps.{Inners}
 use Rattle.magnetar_prover.specs.InScratch.{inner_in}
-use borrow.Author.Rules.{rules}
 use lib.ListN.{length}
-use mathlib.Core.Path.{◌≡◌, refl}
-use native.Mathlib.Omega.{arith}
+use mathlib.Core.Path.{◌≡◌}
 use Rattle.magnetar_prover.proofs.inner.rounds.Given as goal
 
 abbrev pub invariant-loop-i : goal.invariant-loop-i

@@ -1,8 +1,6 @@
 use Prim.Native.Nat.{◌*◌, ◌-◌, ℕ}
-use Rattle.magnetar_field.specs.Words.{elements}
 use Rattle.magnetar_prover.proofs.InnerWhole.{locals-wider, whole_is}
 use Rattle.magnetar_prover.proofs.Slots.{fore-length, part_length, put-length}
-use borrow.Author.Rules.{rules}
 use lib.ListN.{drop, length, replicate, take}
 use lib.Seq.{length-take-le}
 use mathlib.Core.List.{◌++◌}

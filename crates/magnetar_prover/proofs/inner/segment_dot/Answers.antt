@@ -1,7 +1,6 @@
 use Prim.Native.Nat.{◌*◌, ◌≤◌}
 use Rattle.magnetar_prover.proofs.Segments.{segment-is}
 use Rattle.magnetar_prover.proofs.Slots.{part-is}
-use borrow.Author.Rules.{rules}
 use lib.ListN.{length}
 use lib.Seq.{length-take-le}
 use mathlib.Core.Path.{sym}

@@ -1,6 +1,5 @@
 use Prim.Native.Nat.{◌*◌, ◌+◌, ◌≤◌}
 use Rattle.magnetar_prover.proofs.Segments.{columns-kept, local-point, segment-sum}
-use borrow.Author.Rules.{rules}
 use lib.ListN.{get_or, length}
 use lib.Seq.{length-take-le}
 use Rattle.magnetar_r1cs.proofs.Points.{eq-built}

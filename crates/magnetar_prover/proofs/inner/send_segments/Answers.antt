@@ -1,14 +1,14 @@
-use Prim.Native.Nat.{◌*◌, ◌+◌, ◌-◌, ◌≤◌, ℕ}
+use Prim.Native.Nat.{◌*◌, ◌+◌, ℕ}
 use Rattle.magnetar_field.specs.Tabulate.{tabulate}
 use Rattle.magnetar_field.specs.Words.{elements}
 use Rattle.magnetar_schedule.specs.Schedule.{numbered}
-use Rattle.magnetar_prover.proofs.Segments.{Each, each-done, each_more, each-start-at}
+use Rattle.magnetar_prover.proofs.Segments.{each-done, each_more, each-start-at}
 use Rattle.magnetar_prover.specs.Entries.{table_at}
 use Rattle.magnetar_prover.specs.InScratch.{absorbed_one, sent_in, segment_in}
 use borrow.Author.Rules.{rules}
 use lib.ListN.{length, take}
 use mathlib.Core.List.{List, [], ◌++◌, ◌∷◌}
-use mathlib.Core.Path.{◌∙◌, ◌≡◌, ap, refl}
+use mathlib.Core.Path.{◌∙◌, ap, refl}
 use native.Mathlib.Omega.{arith}
 use Rattle.magnetar_prover.proofs.inner.send_segments.Goals as goal
 
@@ -23,9 +23,9 @@ loop-i-init c = let x = c.args in (
 
 pub send_segment-v-requires : goal.send_segment-v-requires
 send_segment-v-requires c = let l = c.loop-i in let p = c.requires in record {
-      p_bound = (omega arith, omega arith, omega arith, p.k_bound.4, omega arith, omega arith);
-      local = p.locals.each l.i (omega arith);
-    }
+  p_bound = (omega arith, omega arith, omega arith, p.k_bound.4, omega arith, omega arith);
+  local = p.locals.each l.i (omega arith);
+}
 
 pub loop-i-preserved : goal.loop-i-preserved
 loop-i-preserved c = let l = c.loop-i in

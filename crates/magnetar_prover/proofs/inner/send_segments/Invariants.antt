@@ -1,15 +1,11 @@
-use Prim.Native.Nat.{◌*◌, ◌+◌, ◌-◌, ◌≤◌, ℕ}
+use Prim.Native.Nat.{◌*◌, ◌+◌, ◌-◌, ◌≤◌}
 use Rattle.magnetar_field.specs.Tabulate.{tabulate}
 use Rattle.magnetar_field.specs.Words.{elements}
-use Rattle.magnetar_schedule.specs.Schedule.{numbered}
-use Rattle.magnetar_prover.proofs.Segments.{Each, each-done, each_more, each-start-at}
+use Rattle.magnetar_prover.proofs.Segments.{Each}
 use Rattle.magnetar_prover.specs.Entries.{table_at}
-use Rattle.magnetar_prover.specs.InScratch.{absorbed_one, sent_in, segment_in}
-use borrow.Author.Rules.{rules}
-use lib.ListN.{length, take}
-use mathlib.Core.List.{List, [], ◌++◌, ◌∷◌}
-use mathlib.Core.Path.{◌∙◌, ◌≡◌, ap, refl}
-use native.Mathlib.Omega.{arith}
+use Rattle.magnetar_prover.specs.InScratch.{sent_in, segment_in}
+use lib.ListN.{length}
+use mathlib.Core.Path.{◌≡◌}
 use Rattle.magnetar_prover.proofs.inner.send_segments.Given as goal
 
 abbrev pub invariant-loop-i : goal.invariant-loop-i

@@ -1,6 +1,5 @@
 use Rattle.magnetar_field.specs.Gf128.{value}
 use Rattle.magnetar_prover.proofs.Sent.{drawn-more}
-use borrow.Author.Rules.{rules}
 use mathlib.Core.Path.{◌∙◌, ap}
 use native.Mathlib.Omega.{arith}
 use Rattle.magnetar_prover.proofs.outer.end_round.Goals as goal

@@ -1,6 +1,5 @@
 use Prim.Native.Nat.{◌*◌, ◌≤◌}
 use Rattle.magnetar_prover.proofs.Bound.{eq-behind, eq-dropped, eq-rest}
-use borrow.Author.Rules.{rules}
 use lib.ListN.{length}
 use lib.Seq.{length-take-le}
 use mathlib.Core.Path.{◌∙◌, sym}

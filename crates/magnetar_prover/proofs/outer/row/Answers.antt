@@ -8,7 +8,6 @@ use Rattle.magnetar_prover.proofs.Slots.{part-size}
 use Rattle.magnetar_prover.specs.Entries.{table_at}
 use Rattle.magnetar_sumcheck_verifier.specs.Outer.{drop_var, outer_message}
 use Rattle.magnetar_prover.specs.Labels.{row_label}
-use borrow.Author.Rules.{rules}
 use lib.ListN.{length}
 use mathlib.Core.Path.{◌∙◌, refl}
 use native.Mathlib.Omega.{arith}
@@ -16,15 +15,15 @@ use Rattle.magnetar_prover.proofs.outer.row.Goals as goal
 
 pub message-requires : goal.message-requires
 message-requires c = let x = c.args in let p = c.requires in record {
-      s_len = (p.s_len.0, p.s_len.1, p.s_len.2, part-size x.proof.now (2 * x.p) 8 p.s_len.4);
-      table = p.rows.table;
-    }
+  s_len = (p.s_len.0, p.s_len.1, p.s_len.2, part-size x.proof.now (2 * x.p) 8 p.s_len.4);
+  table = p.rows.table;
+}
 
 pub end_round-y-requires : goal.end_round-y-requires
 end_round-y-requires c = let p = c.requires in record {
-      s_len = (c.message.auto.s ∙ p.s_len.0, p.s_len.1, p.s_len.2, p.s_len.5);
-      table = p.rows.table;
-    }
+  s_len = (c.message.auto.s ∙ p.s_len.0, p.s_len.1, p.s_len.2, p.s_len.5);
+  table = p.rows.table;
+}
 
 pub returns : goal.returns
 returns c = let x = c.args in

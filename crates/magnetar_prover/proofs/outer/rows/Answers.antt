@@ -1,11 +1,8 @@
-use Prim.Native.Nat.{◌*◌, ◌+◌, ◌-◌, ◌≤◌}
 use Rattle.magnetar_field.specs.Gf128.{value}
-use Rattle.magnetar_prover.proofs.RowSteps.{Rowing, rowing-end, rowing-next, rowing-rows, rowing_start}
-use Rattle.magnetar_prover.specs.InScratch.{row_in}
+use Rattle.magnetar_prover.proofs.RowSteps.{rowing-end, rowing-next, rowing-rows, rowing_start}
 use Rattle.magnetar_prover.specs.Labels.{row_label}
 use borrow.Author.Rules.{rules}
-use lib.ListN.{length}
-use mathlib.Core.Path.{◌≡◌, refl}
+use mathlib.Core.Path.{refl}
 use native.Mathlib.Omega.{arith}
 use Rattle.magnetar_prover.proofs.outer.rows.Goals as goal
 
@@ -22,7 +19,7 @@ loop-i-init c = let x = c.args in (
 
 pub row-r-requires : goal.row-r-requires
 row-r-requires c = let x = c.args in let p = c.requires.s_len in let l = c.loop-i in record {
-      s_len = (
+  s_len = (
     omega arith,
     p.1,
     l.invariant.4,
@@ -31,8 +28,8 @@ row-r-requires c = let x = c.args in let p = c.requires.s_len in let l = c.loop-
         arith,
     omega arith,
   );
-      rows = rowing-rows x.o x.d l.invariant.5 (omega arith) p.3 p.6;
-    }
+  rows = rowing-rows x.o x.d l.invariant.5 (omega arith) p.3 p.6;
+}
 
 pub loop-i-preserved : goal.loop-i-preserved
 loop-i-preserved c = let l = c.loop-i in

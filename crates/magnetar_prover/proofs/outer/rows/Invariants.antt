@@ -1,12 +1,10 @@
 use Prim.Native.Nat.{◌*◌, ◌+◌, ◌-◌, ◌≤◌}
 use Rattle.magnetar_field.specs.Gf128.{value}
-use Rattle.magnetar_prover.proofs.RowSteps.{Rowing, rowing-end, rowing-next, rowing-rows, rowing_start}
+use Rattle.magnetar_prover.proofs.RowSteps.{Rowing}
 use Rattle.magnetar_prover.specs.InScratch.{row_in}
 use Rattle.magnetar_prover.specs.Labels.{row_label}
-use borrow.Author.Rules.{rules}
 use lib.ListN.{length}
-use mathlib.Core.Path.{◌≡◌, refl}
-use native.Mathlib.Omega.{arith}
+use mathlib.Core.Path.{◌≡◌}
 use Rattle.magnetar_prover.proofs.outer.rows.Given as goal
 
 abbrev pub invariant-loop-i : goal.invariant-loop-i

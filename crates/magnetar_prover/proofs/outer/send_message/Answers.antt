@@ -2,7 +2,6 @@ use Prim.Native.Nat.{◌*◌, ◌+◌, ◌-◌, ◌/◌, ℕ}
 use Rattle.magnetar_field.specs.Gf128.{value}
 use Rattle.magnetar_prover.proofs.Slots.{part-is, part-size}
 use Rattle.magnetar_prover.proofs.Whole.{outer-written}
-use borrow.Author.Rules.{rules}
 use lib.ListN.{drop, length, take}
 use lib.Seq.{length-take-le}
 use mathlib.Core.Path.{◌∙◌, ◌≡◌, ap, sym}

@@ -4,7 +4,6 @@ use native.Mathlib.Omega.{arith}
 use lib.ListN.{length, drop, length-drop}
 use lib.Seq.{length-take-le, take_all}
 use Rattle.magnetar_prover.proofs.OuterParts.{end-left}
-use borrow.Author.Rules.{rules}
 use Rattle.magnetar_prover.proofs.rounds.end.Goals as goal
 
 pub slice_bounds-terminals-end : goal.slice_bounds-terminals-end

@@ -1,7 +1,6 @@
 use mathlib.Core.Path.{refl, ◌∙◌}
 use native.Mathlib.Omega.{arith}
 use Rattle.magnetar_prover.proofs.OuterParts.{shared-left}
-use borrow.Author.Rules.{rules}
 use Rattle.magnetar_prover.proofs.rounds.first.Goals as goal
 
 pub returns : goal.returns

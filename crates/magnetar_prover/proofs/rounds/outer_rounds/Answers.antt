@@ -11,16 +11,15 @@ use Rattle.magnetar_prover.proofs.Entered.{laid-over}
 use Rattle.magnetar_prover.proofs.OuterGuard.{outer-fits, blocks-lent, logins-few, bin_few, fld_few}
 use Rattle.magnetar_prover.proofs.OuterParts.{played-is}
 use Rattle.magnetar_prover.specs.Entries.{outer_rounds_refusal, outer_sent, outer_drawn, block_words}
-use borrow.Author.Rules.{rules}
 use Rattle.magnetar_prover.proofs.rounds.outer_rounds.Goals as goal
 
 pub returns-then-z-ne0 : goal.returns-then-z-ne0
 returns-then-z-ne0 c = let e = c.of_outer-z.ensures in record {
-      answer = ap₂ (λ (n : ℕ) (u : Transcript). record { code = n; transcript = u }) e (turned _ c.args.t e c.if-z-ne0.true);
-      proof = turned _ c.args.proof.now e c.if-z-ne0.true;
-      draws = turned _ c.args.draws.now e c.if-z-ne0.true;
-      scratch = turned _ c.args.s.now e c.if-z-ne0.true;
-    }
+  answer = ap₂ (λ (n : ℕ) (u : Transcript). record { code = n; transcript = u }) e (turned _ c.args.t e c.if-z-ne0.true);
+  proof = turned _ c.args.proof.now e c.if-z-ne0.true;
+  draws = turned _ c.args.draws.now e c.if-z-ne0.true;
+  scratch = turned _ c.args.s.now e c.if-z-ne0.true;
+}
 
 pub sent_words-a-requires : goal.sent_words-a-requires
 sent_words-a-requires c = let z = (outer-fits c.args.q
@@ -146,22 +145,22 @@ returns c = let f = outer-fits c.args.q c.args.rb c.args.rf c.args.proof.now c.a
     )) ∙ c.block_words-e.ensures in record {
       answer = ap₂ (λ (n : ℕ) (u : Transcript). record { code = n; transcript = u }) e (ap (λ (p : Steps). p.run_state.transcript) q ∙ done _ c.args.t e refl);
       proof = laid-over c.run-u.new.proof c.args.proof.now c.sent_words-a.result (outer_sent c.log2-l.result c.log2-b.result c.log2-f.result) c.sent_words-a.ensures a (omega (
-          arith,
-          c.sent_words-a.ensures,
-          c.log2-l.ensures.0,
-          c.log2-b.ensures.0,
-          c.log2-f.ensures.0,
-          f.sent,
-        )) (λ i. omega (arith, c.type_inv.proof i)) ∙ (ap (λ (p : Steps). overlaid
-            (words p.sent) c.args.proof.now) q ∙ done _ c.args.proof.now e refl);
+        arith,
+        c.sent_words-a.ensures,
+        c.log2-l.ensures.0,
+        c.log2-b.ensures.0,
+        c.log2-f.ensures.0,
+        f.sent,
+      )) (λ i. omega (arith, c.type_inv.proof i)) ∙ (ap (λ (p : Steps). overlaid
+          (words p.sent) c.args.proof.now) q ∙ done _ c.args.proof.now e refl);
       draws = laid-over c.run-u.new.draws c.args.draws.now c.drawn_words-d.result (outer_drawn c.log2-l.result c.log2-b.result c.log2-f.result) c.drawn_words-d.ensures d (omega (
-            arith,
-            c.drawn_words-d.ensures,
-            c.log2-l.ensures.0,
-            c.log2-b.ensures.0,
-            c.log2-f.ensures.0,
-            f.drawn,
-          )) (λ i. omega (arith, c.type_inv.draws i)) ∙ (ap (λ (p :
-              Steps). overlaid (words p.run_state.draws) c.args.draws.now) q ∙ done _ c.args.draws.now e refl);
+        arith,
+        c.drawn_words-d.ensures,
+        c.log2-l.ensures.0,
+        c.log2-b.ensures.0,
+        c.log2-f.ensures.0,
+        f.drawn,
+      )) (λ i. omega (arith, c.type_inv.draws i)) ∙ (ap (λ (p :
+          Steps). overlaid (words p.run_state.draws) c.args.draws.now) q ∙ done _ c.args.draws.now e refl);
       scratch = rw (c.run-u.ensures.cleared, l, c.block_words-e.ensures) (done _ c.args.s.now e refl);
     }

@@ -1,7 +1,6 @@
 use native.Mathlib.Nat.{mod-eq_of_lt}
 use native.Mathlib.Omega.{arith}
 use lib.Pow.{pow_mono}
-use borrow.Author.Rules.{rules}
 use Rattle.magnetar_prover.proofs.rounds.power_words.Goals as goal
 
 pub returns : goal.returns

@@ -8,7 +8,6 @@ use Rattle.magnetar_field.specs.Gf128.{value}
 use Rattle.magnetar_field.proofs.Elements.{elements-length}
 use Rattle.magnetar_prover.proofs.Blocks.{lent-behind, rest-length}
 use Rattle.magnetar_prover.proofs.OuterParts.{rows_left}
-use borrow.Author.Rules.{rules}
 use Rattle.magnetar_prover.proofs.rounds.rows.Goals as goal
 
 pub slice_bounds-rows-end-2 : goal.slice_bounds-rows-end-2
@@ -16,7 +15,7 @@ slice_bounds-rows-end-2 c = sym (length-take-le _ _ (omega (arith, c.requires.bl
 
 pub rows-u-requires : goal.rows-u-requires
 rows-u-requires c = let p = c.requires in record {
-      s_len = (
+  s_len = (
     length-take-le _ _ (omega (arith, p.blocks)),
     p.bin_most,
     omega (arith, c.power_words-nb.ensures, p.bin_words, pow_mono {i = c.args.b} {j = c.args.l + c.args.b} (omega arith)),
@@ -27,15 +26,15 @@ rows-u-requires c = let p = c.requires in record {
     omega (arith, p.proof),
     omega (arith, p.draws),
   );
-      n_value = c.power_words-nb.ensures;
-    }
+  n_value = c.power_words-nb.ensures;
+}
 
 pub rows-v-requires : goal.rows-v-requires
 rows-v-requires c = let p = c.requires in let one : length c.rows-u.new.s ≡ 4 * c.args.wb = c.rows-u.auto.s ∙ length-take-le _ _ (omega (
   arith,
   c.requires.blocks,
 )) in record {
-      s_len = (
+  s_len = (
     ap length
         (lent-behind c.args.s.now c.rows-u.new.s (4 * c.args.wb) (4 * c.args.wf) p.blocks one) ∙ rest-length c.args.s.now c.rows-u.new.s (4 * c.args.wb) (4 * c.args.wf) p.blocks one,
     p.fld_most,
@@ -47,8 +46,8 @@ rows-v-requires c = let p = c.requires in let one : length c.rows-u.new.s ≡ 4 
     omega (arith, p.proof, c.rows-u.auto.proof),
     omega (arith, p.draws, c.rows-u.auto.draws),
   );
-      n_value = c.power_words-nf.ensures;
-    }
+  n_value = c.power_words-nf.ensures;
+}
 
 pub returns : goal.returns
 returns c = let p = c.requires in let one : length c.rows-u.new.s ≡ 4 * c.args.wb = c.rows-u.auto.s ∙ length-take-le _ _ (omega (

@@ -3,7 +3,6 @@ use Prim.Native.Nat.{ℕ, ◌^◌, ◌<◌}
 use lib.ListN.{get_or}
 use native.Mathlib.Omega.{arith}
 use Rattle.magnetar_prover.proofs.Staging.{over, absorbed-one, part-words, part-next}
-use borrow.Author.Rules.{rules}
 use Rattle.magnetar_prover.proofs.schedule_run.absorb_one.Goals as goal
 
 pub returns-then-s-eq0 : goal.returns-then-s-eq0

@@ -1,6 +1,5 @@
 use native.Mathlib.Omega.{arith}
 use Rattle.magnetar_prover.proofs.Staging.{over, drawn-one}
-use borrow.Author.Rules.{rules}
 use Rattle.magnetar_prover.proofs.schedule_run.draw_one.Goals as goal
 
 pub returns-then-s-eq0 : goal.returns-then-s-eq0

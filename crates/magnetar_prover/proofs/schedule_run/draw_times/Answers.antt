@@ -1,6 +1,5 @@
-use Prim.Native.Nat.{◌-◌}
 use native.Mathlib.Omega.{arith}
-use Rattle.magnetar_prover.proofs.Turns.{Times, times-start, times_more, times-end}
+use Rattle.magnetar_prover.proofs.Turns.{times-start, times_more, times-end}
 use borrow.Author.Rules.{rules}
 use Rattle.magnetar_prover.proofs.schedule_run.draw_times.Goals as goal
 

@@ -1,7 +1,5 @@
 use Prim.Native.Nat.{◌-◌}
-use native.Mathlib.Omega.{arith}
-use Rattle.magnetar_prover.proofs.Turns.{Times, times-start, times_more, times-end}
-use borrow.Author.Rules.{rules}
+use Rattle.magnetar_prover.proofs.Turns.{Times}
 use Rattle.magnetar_prover.proofs.schedule_run.draw_times.Given as goal
 
 abbrev pub invariant-loop-i : goal.invariant-loop-i

@@ -1,7 +1,6 @@
 use mathlib.Core.Path.{refl}
 use native.Mathlib.Omega.{arith}
 use Rattle.magnetar_prover.proofs.WholeSchedule.{run-all}
-use borrow.Author.Rules.{rules}
 use Rattle.magnetar_prover.proofs.schedule_run.events_to.Goals as goal
 
 pub outer-a-requires : goal.outer-a-requires

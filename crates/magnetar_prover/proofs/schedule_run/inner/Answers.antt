@@ -1,7 +1,6 @@
 use Rattle.magnetar_hash.specs.Bytes.{ascii}
 use Rattle.magnetar_schedule.specs.Schedule.{numbered}
 use Rattle.magnetar_prover.proofs.WholeSchedule.{inner-all}
-use borrow.Author.Rules.{rules}
 use Rattle.magnetar_prover.proofs.schedule_run.inner.Goals as goal
 
 pub returns : goal.returns

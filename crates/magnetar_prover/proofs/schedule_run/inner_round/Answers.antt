@@ -1,5 +1,4 @@
 use Rattle.magnetar_hash.specs.Bytes.{ascii}
-use borrow.Author.Rules.{rules}
 use Rattle.magnetar_prover.proofs.schedule_run.inner_round.Goals as goal
 
 pub returns : goal.returns

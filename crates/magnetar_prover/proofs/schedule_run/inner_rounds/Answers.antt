@@ -1,8 +1,5 @@
-use Prim.Native.Nat.{◌-◌}
-use Rattle.magnetar_field.specs.Words.{elements}
-use Rattle.magnetar_hash.specs.Bytes.{ascii}
 use native.Mathlib.Omega.{arith}
-use Rattle.magnetar_prover.proofs.Turns.{Rounds, rounds-start, rounds-more, rounds-end}
+use Rattle.magnetar_prover.proofs.Turns.{rounds-start, rounds-more, rounds-end}
 use borrow.Author.Rules.{rules}
 use Rattle.magnetar_prover.proofs.schedule_run.inner_rounds.Goals as goal
 

@@ -1,8 +1,6 @@
-use mathlib.Core.Path.{◌∙◌}
 use Rattle.magnetar_hash.specs.Bytes.{ascii}
 use Rattle.magnetar_schedule.specs.Schedule.{numbered}
 use Rattle.magnetar_prover.proofs.WholeSchedule.{outer-all}
-use borrow.Author.Rules.{rules}
 use Rattle.magnetar_prover.proofs.schedule_run.outer.Goals as goal
 
 pub returns : goal.returns

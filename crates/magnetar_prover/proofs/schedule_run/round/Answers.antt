@@ -1,4 +1,3 @@
-use borrow.Author.Rules.{rules}
 use Rattle.magnetar_prover.proofs.schedule_run.round.Goals as goal
 
 pub returns : goal.returns

@@ -1,4 +1,3 @@
-use borrow.Author.Rules.{rules}
 use Rattle.magnetar_protocol.specs.Shape.{sizes_only}
 use Rattle.magnetar_prover.proofs.PlayGuard.{play-back, play-done}
 use Rattle.magnetar_prover.proofs.schedule_run.run_events.Goals as goal

@@ -1,10 +1,5 @@
-use mathlib.Core.List.{◌++◌}
-use Prim.Native.Nat.{◌-◌, ◌≤◌}
-use lib.ListN.{length}
-use Rattle.magnetar_field.specs.Words.{elements}
-use Rattle.magnetar_schedule.specs.Schedule.{decimal}
 use native.Mathlib.Omega.{arith}
-use Rattle.magnetar_prover.proofs.Turns.{Rounds, rounds-start, rounds-more, rounds-end}
+use Rattle.magnetar_prover.proofs.Turns.{rounds-start, rounds-more, rounds-end}
 use borrow.Author.Rules.{rules}
 use Rattle.magnetar_prover.proofs.schedule_run.run_rounds.Goals as goal
 

@@ -1,10 +1,5 @@
-use mathlib.Core.List.{◌++◌}
-use Prim.Native.Nat.{◌-◌, ◌≤◌}
-use lib.ListN.{length}
-use Rattle.magnetar_field.specs.Words.{elements}
-use Rattle.magnetar_schedule.specs.Schedule.{decimal}
 use native.Mathlib.Omega.{arith}
-use Rattle.magnetar_prover.proofs.Turns.{Singles, singles-start, singles-more, singles-end}
+use Rattle.magnetar_prover.proofs.Turns.{singles-start, singles-more, singles-end}
 use borrow.Author.Rules.{rules}
 use Rattle.magnetar_prover.proofs.schedule_run.run_singles.Goals as goal
 

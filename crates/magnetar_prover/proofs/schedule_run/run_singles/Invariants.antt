@@ -3,9 +3,7 @@ use Prim.Native.Nat.{◌-◌, ◌≤◌}
 use lib.ListN.{length}
 use Rattle.magnetar_field.specs.Words.{elements}
 use Rattle.magnetar_schedule.specs.Schedule.{decimal}
-use native.Mathlib.Omega.{arith}
-use Rattle.magnetar_prover.proofs.Turns.{Singles, singles-start, singles-more, singles-end}
-use borrow.Author.Rules.{rules}
+use Rattle.magnetar_prover.proofs.Turns.{Singles}
 use Rattle.magnetar_prover.proofs.schedule_run.run_singles.Given as goal
 
 abbrev pub invariant-loop-i : goal.invariant-loop-i

@@ -1,6 +1,5 @@
 use Prim.Native.Nat.{◌*◌}
 use Rattle.magnetar_prover.proofs.Blocks.{behind-folded, front-folded, lent-behind, rest-length}
-use borrow.Author.Rules.{rules}
 use lib.ListN.{length}
 use lib.Seq.{length-take-le}
 use mathlib.Core.Path.{◌∙◌, ◌≡◌, ap, sym}
@@ -12,9 +11,9 @@ slice_bounds-fold-end-2 c = sym (length-take-le _ _ (omega arith))
 
 pub fold-requires : goal.fold-requires
 fold-requires c = let p = c.requires in record {
-      s_len = (length-take-le _ _ (omega arith), p.s_len.1, p.s_len.3);
-      table = p.table.0;
-    }
+  s_len = (length-take-le _ _ (omega arith), p.s_len.1, p.s_len.3);
+  table = p.table.0;
+}
 
 pub fold-requires-2 : goal.fold-requires-2
 fold-requires-2 c = let x = c.args in

@@ -5,7 +5,6 @@ use Rattle.magnetar_prover.proofs.Blocks.{behind-dropped, both-sent, both-there,
 use Rattle.magnetar_prover.proofs.RowSteps.{outer-four}
 use Rattle.magnetar_prover.proofs.Slots.{mid-length, part-size}
 use Rattle.magnetar_prover.specs.Shared.{message_in}
-use borrow.Author.Rules.{rules}
 use lib.ListN.{drop, length, take}
 use lib.Seq.{length-take-le}
 use mathlib.Core.List.{List}
@@ -18,15 +17,15 @@ slice_bounds-message-end-3 c = sym (length-take-le _ _ (omega arith))
 
 pub message-requires : goal.message-requires
 message-requires c = let x = c.args in let p = c.requires in record {
-      s_len = (
+  s_len = (
     length-take-le _ _
         (omega arith),
     p.s_len.1,
     p.s_len.3,
     part-size x.proof.now (2 * x.p) 8 (omega arith),
   );
-      table = p.table.0;
-    }
+  table = p.table.0;
+}
 
 pub message-requires-2 : goal.message-requires-2
 message-requires-2 c = let x = c.args in
@@ -61,15 +60,15 @@ returns c = let x = c.args in
       sent = both-sent x.proof.now c.message.new.out c.message-2.new.out v w x.p p.s_len.6 (outer-four x.vb _ _ _ _ _ _) (outer-four x.vf _ _ _ _ _ _)
           f.written so;
       there = both-there x.proof.now c.message.new.out c.message-2.new.out v w x.p p.s_len.6 (outer-four x.vb _ _ _ _ _ _) (outer-four x.vf _ _ _ _ _
-            _) f.written so;
+          _) f.written so;
       bin = front-dropped x.s.now c.message.new.s
-              c.message-2.new.s (4 * x.wb) (4 * x.wf) p.s_len.0 one two (record {
-                dropped = f.dropped;
-                kept =
-                    f.kept;
-              });
-      fld = behind-dropped x.s.now c.message.new.s c.message-2.new.s (4 * x.wb) (4 * x.wf) p.s_len.0 one two (record {
-            dropped = g.dropped;
-            kept = g.kept;
+          c.message-2.new.s (4 * x.wb) (4 * x.wf) p.s_len.0 one two (record {
+            dropped = f.dropped;
+            kept =
+                f.kept;
           });
+      fld = behind-dropped x.s.now c.message.new.s c.message-2.new.s (4 * x.wb) (4 * x.wf) p.s_len.0 one two (record {
+        dropped = g.dropped;
+        kept = g.kept;
+      });
     }

@@ -7,7 +7,6 @@ use Rattle.magnetar_hash.specs.Transcript as transcript
 use Rattle.magnetar_schedule.specs.Schedule.{numbered}
 use Rattle.magnetar_prover.proofs.SharedSteps.{high-table, shared-done}
 use Rattle.magnetar_prover.proofs.Slots.{part-is}
-use borrow.Author.Rules.{rules}
 use lib.ListN.{length}
 use mathlib.Core.List.{List}
 use mathlib.Core.Path.{◌∙◌, ap}
@@ -16,9 +15,9 @@ use Rattle.magnetar_prover.proofs.shared.shared_round.Goals as goal
 
 pub send_messages-requires : goal.send_messages-requires
 send_messages-requires c = let p = c.requires in record {
-      s_len = (p.s_len.0, p.s_len.1, p.s_len.2, p.s_len.3, p.s_len.4, p.s_len.5, p.s_len.6);
-      table = (high-table p.shared.0, high-table p.shared.1);
-    }
+  s_len = (p.s_len.0, p.s_len.1, p.s_len.2, p.s_len.3, p.s_len.4, p.s_len.5, p.s_len.6);
+  table = (high-table p.shared.0, high-table p.shared.1);
+}
 
 pub overflow_mul-a : goal.overflow_mul-a
 overflow_mul-a c = omega (arith, c.requires.s_len.5)
@@ -34,13 +33,13 @@ slice_bounds-shared_round-end c = omega (arith, c.requires.s_len.6, c.send_messa
 
 pub end_both-requires : goal.end_both-requires
 end_both-requires c = let p = c.requires in record {
-      s_len = (c.send_messages.auto.s ∙ p.s_len.0, p.s_len.1, p.s_len.2, p.s_len.3, p.s_len.4, p.s_len.7);
-      table = (
+  s_len = (c.send_messages.auto.s ∙ p.s_len.0, p.s_len.1, p.s_len.2, p.s_len.3, p.s_len.4, p.s_len.7);
+  table = (
     high-table
         p.shared.0,
     high-table p.shared.1,
   );
-    }
+}
 
 pub returns : goal.returns
 returns c = let x = c.args in

@@ -1,10 +1,8 @@
-use Prim.Native.Nat.{◌*◌, ◌+◌, ◌-◌, ◌<◌, ◌≤◌}
+use Prim.Native.Nat.{◌<◌}
 use Rattle.magnetar_field.specs.Gf128.{value}
-use Rattle.magnetar_prover.proofs.SharedSteps.{Sharing, sharing-bin, sharing-end, sharing-fld, sharing-next, sharing-start}
-use Rattle.magnetar_prover.specs.Shared.{shared_in}
+use Rattle.magnetar_prover.proofs.SharedSteps.{sharing-bin, sharing-end, sharing-fld, sharing-next, sharing-start}
 use borrow.Author.Rules.{rules}
-use lib.ListN.{length}
-use mathlib.Core.Path.{◌≡◌, refl}
+use mathlib.Core.Path.{refl}
 use native.Mathlib.Omega.{arith}
 use Rattle.magnetar_prover.proofs.shared.shared_rounds.Goals as goal
 
