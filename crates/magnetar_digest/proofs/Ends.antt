@@ -1,10 +1,9 @@
 -- How both forms of the digest end.
 -- Assumes nothing.
-use Rattle.std.proofs.Common.{◌≡◌, ℕ, ◌/◌, Bool, true, false, cond, eqb, List, [], ◌++◌, length, sym, refl, ap, ◌∙◌, ap₂}
+use Rattle.std.proofs.Common.{◌≡◌, ℕ, ◌/◌, Bool, true, false, cond, eqb, List, [], ◌++◌, length, refl, ap, ◌∙◌, ap₂}
 use Rattle.magnetar_hash.specs.Sponge.{finished, within}
 use Rattle.magnetar_hash.specs.declared.hasher.Sponge.{Sponge}
 use Rattle.magnetar_hash.specs.Parts.{no_digest}
-use Rattle.magnetar_hash.specs.declared.sha3.DigestAnswer.{DigestAnswer}
 use Rattle.magnetar_layout.specs.Tests.{first_refusal, size_tests, layout_tests}
 use Rattle.magnetar_relation.specs.Rules.{Rules, in_relation}
 use Rattle.magnetar_relation.specs.RuleTests.{rule_tests, given}

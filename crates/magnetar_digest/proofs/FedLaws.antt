@@ -1,9 +1,9 @@
 -- Words that are fed one after the other.
 -- Assumes nothing.
-use Rattle.std.proofs.Common.{◌≡◌, ℕ, suc, ◌+◌, ◌*◌, ◌%◌, ◌^◌, ◌<◌, ◌≤◌, List, [], ◌∷◌, ◌++◌, length, get_or, drop, sym, refl, ap, ◌∙◌, append_assoc, append-nil, add-one, arith, length-append, drop-cons}
+use Rattle.std.proofs.Common.{◌≡◌, ℕ, suc, ◌+◌, ◌*◌, ◌%◌, ◌^◌, ◌<◌, List, [], ◌∷◌, ◌++◌, length, get_or, drop, sym, refl, ap, ◌∙◌, append_assoc, append-nil, add-one, arith, length-append, drop-cons}
 use mathlib.Core.List.{flat_map}
 use lib.Pow.{high, low}
-use Rattle.magnetar_hash.specs.Bytes.{le_bytes, word_bytes}
+use Rattle.magnetar_hash.specs.Bytes.{le_bytes}
 use Rattle.magnetar_hash.specs.Sponge.{finished, within, started}
 use Rattle.magnetar_hash.specs.declared.hasher.Sponge.{Sponge}
 use Rattle.magnetar_hash.proofs.Bytes.{le-mod, length-words}

@@ -8,7 +8,7 @@ use Rattle.magnetar_hash.proofs.Bytes.{length-le, length-words}
 use Rattle.magnetar_matrix.specs.Matrix.{Entry}
 use Rattle.magnetar_relation.specs.declared.shapes.Shapes.{Shapes}
 use Rattle.magnetar_relation.specs.Rules.{Rules}
-use Rattle.magnetar_digest.specs.Digest.{system_numbers, head_numbers, entry_numbers, relation_numbers, relation_bytes, OfWords, Same, OneRelation}
+use Rattle.magnetar_digest.specs.Digest.{system_numbers, entry_numbers, relation_numbers, relation_bytes, Same, OneRelation}
 
 -- ---- the bytes of words give the words
 join : (x n : ℕ) → n ≡ x / 256 → x % 256 + 256 * n ≡ x

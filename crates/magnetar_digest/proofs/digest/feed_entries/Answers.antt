@@ -1,8 +1,7 @@
-use Rattle.std.proofs.Common.{◌≡◌, ◌-◌, drop, refl, arith, drop_of_length-le, rules}
+use Rattle.std.proofs.Common.{drop, refl, arith, drop_of_length-le}
 use Rattle.magnetar_matrix.specs.Lent.{entries_of}
 use Rattle.magnetar_relation.proofs.ToldLaws.{entry-held}
 use Rattle.magnetar_digest.specs.Digest.{entry_numbers}
-use Rattle.magnetar_digest.specs.Feeding.{each_fed}
 use Rattle.magnetar_digest.proofs.FedLaws.{each_more, each-end}
 use Rattle.magnetar_digest.proofs.digest.feed_entries.Goals as goal
 

@@ -1,7 +1,7 @@
 use Rattle.std.proofs.Common.{◌≡◌, ℕ, List, length, min, sym, refl, ◌∙◌, arith, ne_eqb}
 use Rattle.magnetar_matrix.specs.Lent.{entries_of}
 use Rattle.magnetar_relation.specs.Rules.{Rules, rules}
-use Rattle.magnetar_relation.proofs.ToldLaws.{held, entries-held}
+use Rattle.magnetar_relation.proofs.ToldLaws.{entries-held}
 use Rattle.magnetar_digest.proofs.Ends.{digest-ends}
 use Rattle.magnetar_digest.proofs.digest.relation_digest.Goals as goal
 

@@ -1,4 +1,3 @@
-use Rattle.std.proofs.Common.{rules}
 use Rattle.magnetar_digest.proofs.digest_records.feed_record.Goals as goal
 
 pub returns : goal.returns

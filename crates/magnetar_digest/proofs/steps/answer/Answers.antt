@@ -1,4 +1,4 @@
-use Rattle.std.proofs.Common.{rules, ne_eqb}
+use Rattle.std.proofs.Common.{ne_eqb}
 use Rattle.magnetar_digest.proofs.steps.answer.Goals as goal
 
 pub returns-then-z-ne0 : goal.returns-then-z-ne0

@@ -1,5 +1,4 @@
-use Rattle.std.proofs.Common.{◌≡◌, ◌-◌, [], ◌∷◌, length, drop, refl, drop_of_length-le, rules}
-use Rattle.magnetar_digest.specs.Feeding.{each_fed}
+use Rattle.std.proofs.Common.{[], ◌∷◌, drop, refl, drop_of_length-le, rules}
 use Rattle.magnetar_digest.proofs.FedLaws.{each_more, each-end, next-number}
 use Rattle.magnetar_digest.proofs.steps.feed_numbers.Goals as goal
 

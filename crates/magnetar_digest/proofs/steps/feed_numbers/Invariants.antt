@@ -1,6 +1,5 @@
-use Rattle.std.proofs.Common.{◌≡◌, ◌-◌, [], ◌∷◌, length, drop, refl, drop_of_length-le, rules}
+use Rattle.std.proofs.Common.{◌≡◌, ◌-◌, [], ◌∷◌, length, drop}
 use Rattle.magnetar_digest.specs.Feeding.{each_fed}
-use Rattle.magnetar_digest.proofs.FedLaws.{each_more, each-end, next-number}
 use Rattle.magnetar_digest.proofs.steps.feed_numbers.Given as goal
 
 abbrev pub invariant-loop-i : goal.invariant-loop-i

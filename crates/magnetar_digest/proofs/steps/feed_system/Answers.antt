@@ -1,4 +1,4 @@
-use Rattle.std.proofs.Common.{◌++◌, ap, ◌∙◌, rules}
+use Rattle.std.proofs.Common.{◌++◌, ap, ◌∙◌}
 use Rattle.magnetar_digest.specs.Digest.{shape_numbers}
 use Rattle.magnetar_digest.specs.Feeding.{words_fed}
 use Rattle.magnetar_digest.proofs.FedLaws.{fed-more}

@@ -1,7 +1,6 @@
 use Rattle.magnetar_hash.specs.Bytes.{ascii}
 use Rattle.magnetar_digest.specs.Feeding.{words_fed}
 use Rattle.magnetar_digest.proofs.FedLaws.{head-ends}
-use Rattle.std.proofs.Common.{rules}
 use Rattle.magnetar_digest.proofs.steps.head.Goals as goal
 
 pub returns : goal.returns
