@@ -3,13 +3,13 @@
 use mathlib.Core.Path.{◌≡◌, refl, sym, ap, ◌∙◌, subst}
 use mathlib.Core.Bool.{Bool, true, false}
 use mathlib.Core.List.{List, [], ◌++◌}
-use Prim.Native.Nat.{ℕ, suc, ◌*◌, ◌/◌, ◌<◌, ◌≤◌}
+use Prim.Native.Nat.{ℕ, ◌*◌, ◌/◌, ◌<◌, ◌≤◌}
 use native.Mathlib.Omega.{arith}
 use lib.Dec.{ltb, eqb}
 use lib.ListN.{length, get_or, take, drop}
 use borrow.Author.Tests.{ltb-true, ltb-false, le-ltb, eqb-true}
 use Rattle.magnetar_field.specs.Words.{elements, words}
-use Rattle.magnetar_field.proofs.Elements.{elements-length, words-length}
+use Rattle.magnetar_field.proofs.Elements.{words-length}
 use Rattle.magnetar_field.proofs.Tabulation.{tabulate-length, tabulate-get, tabulate-out}
 use Rattle.magnetar_hash.specs.declared.transcript.Transcript.{Transcript}
 use Rattle.magnetar_layout.specs.Tests.{Tests, room_test_of}
@@ -33,7 +33,7 @@ use Rattle.magnetar_spartan.specs.Theorems.{AreWords, AcceptedBy, ProvedCall, Un
 use Rattle.magnetar_spartan.proofs.SizedRules.{rules-numbered, sized-columns}
 use Rattle.magnetar_spartan.proofs.Ended.{provable}
 use Rattle.magnetar_spartan.proofs.PassedTests.{first-refusal-none, clear-front, clear-back, clear-join, same-passes}
-use Rattle.magnetar_spartan.proofs.Sound.{word-elements, front, claims-size, returned-words, returned}
+use Rattle.magnetar_spartan.proofs.Sound.{front, claims-size, returned-words, returned}
 
 -- ---- packed words hold a batch of the relation's sizes
 packed-bit : (ws : List ℕ) (y : ℕ) → packed_bit ws y < 2

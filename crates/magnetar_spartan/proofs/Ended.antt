@@ -2,7 +2,7 @@
 -- Assumes nothing.
 use mathlib.Core.Path.{◌≡◌, refl}
 use mathlib.Core.List.{List, ◌++◌}
-use Prim.Native.Nat.{ℕ, ◌+◌, ◌-◌, ◌*◌, ◌/◌, ◌^◌, ◌≤◌, ◌<◌}
+use Prim.Native.Nat.{ℕ, ◌-◌, ◌*◌, ◌/◌, ◌^◌, ◌≤◌, ◌<◌}
 use lib.Pow.{pow_mono}
 use native.Mathlib.Nat.{lt_of_not-le}
 use native.Mathlib.Omega.{arith}
@@ -15,7 +15,6 @@ use Rattle.magnetar_layout.specs.Tests.{Tests, first_refusal, Sized, size_tests,
 use Rattle.magnetar_layout.proofs.FirstRefusal.{Clear, first-refusal-clear}
 use Rattle.magnetar_r1cs.proofs.Points.{log-most}
 use Rattle.magnetar_protocol.specs.Draws.{draw_count}
-use Rattle.magnetar_protocol.specs.Run.{claims}
 use Rattle.magnetar_relation.specs.Rules.{Rules}
 use Rattle.magnetar_relation.specs.RuleTests.{rule_tests}
 use Rattle.magnetar_protocol.specs.RunTests.{counter_tests, proof_tests}

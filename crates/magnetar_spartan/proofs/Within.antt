@@ -26,7 +26,7 @@ use Rattle.magnetar_relation.specs.RuleTests.{row_tests, col_tests, most_tests, 
 use Rattle.magnetar_protocol.specs.RunTests.{counter_tests, proof_tests}
 use Rattle.magnetar_spartan.specs.Refusals.{rules_tests, proof_words, claim_words, verifier_scratch_of, prover_scratch_of, verify_tests, prove_tests, sizes_only_of}
 use Rattle.magnetar_spartan.specs.Outcome.{verify_refusal, prove_refusal}
-use Rattle.magnetar_spartan.specs.Within.{Power, no_entry, MatrixWithin, SystemWithin, RulesWithin, ProveWithin, VerifyWithin, ProveUnrefused, VerifyUnrefused}
+use Rattle.magnetar_spartan.specs.Within.{Power, no_entry, MatrixWithin, SystemWithin, RulesWithin, ProveWithin, ProveUnrefused, VerifyUnrefused}
 use Rattle.magnetar_spartan.proofs.PassedTests.{first-refusal-none, clear-join, size-passes, same-passes, most-passes, true-passes}
 
 -- ---- powers of two

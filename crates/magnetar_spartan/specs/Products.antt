@@ -2,7 +2,6 @@
 -- of which the first is free and the others are those of A, B and C. Only private contracts cite these definitions.
 -- Assumes nothing.
 use Rattle.std.specs.Prelude.{◌≡◌, cond, ◌&&◌, List, ◌++◌, ℕ, ◌+◌, ◌-◌, ◌*◌, ◌/◌, ◌≤◌, min, ltb, leb, length, take, drop}
-use Rattle.magnetar_field.specs.Words.{elements}
 use Rattle.magnetar_layout.specs.Login.{login_words}
 use Rattle.magnetar_layout.specs.Tests.{Sized, most_columns, most_logins, most_rows}
 use Rattle.magnetar_matrix.specs.Matrix.{Matrix, System}

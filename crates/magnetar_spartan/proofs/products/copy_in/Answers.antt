@@ -1,8 +1,6 @@
 use mathlib.Core.Path.{◌≡◌, refl}
-use Prim.Native.Nat.{◌+◌, ◌-◌, ◌≤◌}
 use native.Mathlib.Omega.{arith}
-use lib.ListN.{length}
-use Rattle.magnetar_spartan.proofs.ProductLaws.{Copied, copied_none, copied_more}
+use Rattle.magnetar_spartan.proofs.ProductLaws.{copied_none, copied_more}
 use borrow.Author.Rules.{rules}
 use Rattle.magnetar_spartan.proofs.products.copy_in.Goals as goal
 

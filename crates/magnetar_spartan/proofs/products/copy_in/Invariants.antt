@@ -1,8 +1,7 @@
-use mathlib.Core.Path.{◌≡◌, refl}
+use mathlib.Core.Path.{◌≡◌}
 use Prim.Native.Nat.{◌+◌, ◌-◌, ◌≤◌}
-use native.Mathlib.Omega.{arith}
 use lib.ListN.{length}
-use Rattle.magnetar_spartan.proofs.ProductLaws.{Copied, copied_none, copied_more}
+use Rattle.magnetar_spartan.proofs.ProductLaws.{Copied}
 use Rattle.magnetar_spartan.proofs.products.copy_in.Given as goal
 
 abbrev pub invariant-loop-i : goal.invariant-loop-i

@@ -1,4 +1,3 @@
-use mathlib.Core.Path.{◌∙◌}
 use mathlib.Core.List.{[]}
 use Rattle.magnetar_relation.specs.Rules.{rules}
 use Rattle.magnetar_spartan.proofs.ProductLaws.{six-left}

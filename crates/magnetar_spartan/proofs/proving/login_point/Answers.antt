@@ -6,7 +6,7 @@ use lib.ListN.{length, get_or, drop_of_length-le}
 use Rattle.magnetar_field.specs.Gf128.{value}
 use Rattle.magnetar_field.specs.Words.{elements}
 use Rattle.magnetar_field.proofs.Elements.{elements-length, elements-stored}
-use Rattle.magnetar_field.proofs.Making.{Made, made_none, made_more}
+use Rattle.magnetar_field.proofs.Making.{made_none, made_more}
 use borrow.Author.Rules.{rules}
 use Rattle.magnetar_spartan.proofs.proving.login_point.Goals as goal
 

@@ -1,12 +1,8 @@
-use mathlib.Core.Path.{◌≡◌, refl, ap, ◌∙◌}
-use mathlib.Core.List.{append-nil}
-use Prim.Native.Nat.{ℕ, ◌+◌, ◌-◌, ◌≤◌}
-use native.Mathlib.Omega.{arith}
-use lib.ListN.{length, get_or, drop_of_length-le}
-use Rattle.magnetar_field.specs.Gf128.{value}
+use mathlib.Core.Path.{◌≡◌}
+use Prim.Native.Nat.{◌+◌, ◌-◌, ◌≤◌}
+use lib.ListN.{length, get_or}
 use Rattle.magnetar_field.specs.Words.{elements}
-use Rattle.magnetar_field.proofs.Elements.{elements-length, elements-stored}
-use Rattle.magnetar_field.proofs.Making.{Made, made_none, made_more}
+use Rattle.magnetar_field.proofs.Making.{Made}
 use Rattle.magnetar_spartan.proofs.proving.login_point.Given as goal
 
 abbrev pub invariant-loop-i : goal.invariant-loop-i

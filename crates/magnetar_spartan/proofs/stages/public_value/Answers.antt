@@ -2,7 +2,6 @@ use Prim.Native.Nat.{◌+◌, ◌*◌, ◌/◌, ◌≤◌}
 use native.Mathlib.Omega.{arith}
 use lib.ListN.{length, length-take}
 use Rattle.magnetar_field.specs.Gf128.{value}
-use Rattle.magnetar_layout.specs.Tests.{Sized}
 use Rattle.magnetar_r1cs.proofs.Points.{log-most}
 use Rattle.magnetar_spartan.proofs.PublicValue.{public-short, public-refused, size_is, public-some}
 use borrow.Author.Rules.{rules}
