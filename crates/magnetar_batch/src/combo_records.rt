@@ -9,7 +9,7 @@ ghost use Rattle.magnetar_batch.specs.TableSteps.{padded, matrix_added, table_ma
 ghost use Rattle.magnetar_records.specs.Records.{entry_of, entries_of_records};
 ghost use Rattle.magnetar_relation.specs.Ends.{matrix_in};
 
-use crate::table as core;
+use crate::table as slices;
 use magnetar_records::records::Entry;
 use magnetar_records::{steps, walks};
 use magnetar_relation::shapes::Shapes;
@@ -21,7 +21,7 @@ fn column_within(m: usize, n: usize, a: usize, b: usize, t: &mut [u64], i: usize
 {
     if a <= i {
         if i < b {
-            core::add_column(m, n, t, e.row, e.col, e.lo, e.hi);
+            slices::add_column(m, n, t, e.row, e.col, e.lo, e.hi);
         }
     }
 }
@@ -51,7 +51,7 @@ fn add_matrix(
 )
     ensures { s.new ≡ matrix_added m n al k p (matrix_in n a b (entries_of_records es.now)) s.old }
 {
-    core::eq_behind(s, m, n, al, k, p);
+    slices::eq_behind(s, m, n, al, k, p);
     add_columns(es, m, n, a, b, s);
 }
 
@@ -113,7 +113,7 @@ pub fn combine(
     table::clear_front(m, s);
     add_system(es, s, m, nb, first, a, b, c, al, k0, k1, k2, pb);
     add_system(es, s, m, nf, c, d, e, f, al, k3, k4, k5, pf);
-    core::clear_behind(s, m, nb, nf);
+    slices::clear_behind(s, m, nb, nf);
 }
 
 // The combined table in front of out; the words of s are 0 at exit.
@@ -129,11 +129,11 @@ fn fill(
 )
     ensures { let t = table_made (relation_of (rules_over m 1 [] sh (entries_of_records es.now))) (padded 12 alphas.now) (padded 32 pb.now) (padded 32 pf.now) s.old in (out.new ≡ overlaid (take (2 * m) t) out.old) × (s.new ≡ cleared_to m t) }
 {
-    let a = core::alphas12(alphas);
-    let p = core::point32(pb);
-    let r = core::point32(pf);
+    let a = slices::alphas12(alphas);
+    let p = slices::point32(pb);
+    let r = slices::point32(pf);
     combine(s, m, sh, a, p, r, es);
-    core::move_table(m, s, out);
+    slices::move_table(m, s, out);
 }
 
 // The same unless n is a refusal; n comes back.
@@ -183,7 +183,7 @@ pub fn build_m_combo(
     let nb = hb.rows;
     let nf = hf.rows;
     let z = walks::rules_refusal(m, one, sh, es);
-    let n = core::refusal(
+    let n = slices::refusal(
         z,
         m,
         nb,

@@ -9,7 +9,7 @@ ghost use Rattle.magnetar_check.specs.CheckSteps.{share_added, product_behind, t
 ghost use Rattle.magnetar_records.specs.Records.{entry_of, entries_of_records};
 ghost use Rattle.magnetar_relation.specs.Ends.{matrix_in, system_in};
 
-use crate::check as core;
+use crate::check as slices;
 use crate::check::{Found, RowCheck};
 use magnetar_records::records::Entry;
 use magnetar_records::walks;
@@ -34,7 +34,7 @@ fn share_within(
 {
     if a <= i {
         if i < b {
-            core::add_share(s, m, n, u, w, packed, x, e.row, e.col, e.lo, e.hi);
+            slices::add_share(s, m, n, u, w, packed, x, e.row, e.col, e.lo, e.hi);
         }
     }
 }
@@ -76,7 +76,7 @@ fn product(
 )
     ensures { s.new ≡ product_behind m n (login_z w packed.now x.now u) (matrix_in n a b (entries_of_records es.now)) s.old }
 {
-    core::clear_behind(s, m, n);
+    slices::clear_behind(s, m, n);
     add_product(es, s, m, n, u, w, a, b, packed, x);
 }
 
@@ -99,11 +99,11 @@ fn check_login(
     ensures { let v = three_in (login_z w packed.now x.now u) (system_in n a b c d (entries_of_records es.now)) s.old in from result s.new ≡ from (failing_in r k u n v) v }
 {
     let none = 0;
-    let twice = core::twice(n);
+    let twice = slices::twice(n);
     product(es, s, none, n, u, w, a, b, packed, x);
     product(es, s, n, n, u, w, b, c, packed, x);
     product(es, s, twice, n, u, w, c, d, packed, x);
-    core::first_bad(r, k, u, s, n)
+    slices::first_bad(r, k, u, s, n)
 }
 
 // The same unless r is a row that was found before.
@@ -124,7 +124,7 @@ fn login_unless(
 ) -> Found
     ensures { from result s.new ≡ login_done k (login_z w packed.now x.now u) (system_in n a b c d (entries_of_records es.now)) u (from r s.old) }
 {
-    let go = core::is_nothing(r);
+    let go = slices::is_nothing(r);
     if go {
         let f = check_login(r, k, u, s, n, a, b, c, d, w, packed, x, es);
         f
@@ -192,10 +192,10 @@ fn judge(
     let d = g.flda;
     let e = g.fldb;
     let f = g.fldc;
-    let l = core::logins_unless(z, q);
+    let l = slices::logins_unless(z, q);
     let r = check_system(r, bin, s, l, nb, first, a, b, c, w, packed, x, es);
     let r = check_system(r, fld, s, l, nf, c, d, e, f, w, packed, x, es);
-    core::clear_unless(z, s, nb, nf);
+    slices::clear_unless(z, s, nb, nf);
     r
 }
 
@@ -221,9 +221,9 @@ pub fn row_check(
     let nb = hb.rows;
     let nf = hf.rows;
     let z = walks::rules_refusal(m, q, sh, es);
-    let n = core::refusal(z, m, q, nb, nf, packed.len(), x.len(), lens, scratch.len());
-    let w = core::half(m);
-    let r = core::first_stray(n, packed, q, w, lens);
+    let n = slices::refusal(z, m, q, nb, nf, packed.len(), x.len(), lens, scratch.len());
+    let w = slices::half(m);
+    let r = slices::first_stray(n, packed, q, w, lens);
     let f = judge(n, r, scratch, m, q, sh, es, w, packed, x);
-    core::answer(n, f)
+    slices::answer(n, f)
 }
