@@ -1,3 +1,4 @@
+pub mod Handed
 pub mod Xor
 pub mod Compared
 pub mod Product

@@ -1,4 +1,5 @@
 pub mod Gf128
+pub mod Number
 pub mod Polynomial
 pub mod Residue
 pub mod Refusal

@@ -2,5 +2,6 @@
 #![tactic(auto)]
 
 pub mod gf128;
+pub mod refusal;
 pub mod sizes;
 pub mod words;
