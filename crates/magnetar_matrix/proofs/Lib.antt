@@ -10,5 +10,6 @@ pub mod Verdicts
 pub mod FirstRow
 pub mod StrayVerdict
 pub mod Walked
+pub mod EntryLists
 pub mod ByRows
 pub mod Examples

@@ -6,3 +6,4 @@ pub mod Packed
 pub mod RowCheck
 pub mod Lent
 pub mod Table
+pub mod Numbers

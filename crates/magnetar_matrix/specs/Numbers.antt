@@ -3,10 +3,10 @@
 -- Assumes nothing.
 use Rattle.std.specs.Prelude.{List, [], ◌∷◌, ℕ, map, length}
 use Rattle.magnetar_matrix.specs.Matrix as matrix
-use Rattle.magnetar_matrix.specs.Lent.{entries_of}
+use Rattle.magnetar_matrix.specs.Lent.{Lent, lent, entry, entries_of}
 use Rattle.magnetar_matrix.specs.declared.entries.Entry.{Entry}
 
--- rows, columns, low and high words
+-- the rows, the columns, the low and the high words of the values
 pub record Numbers : Type 0 where
   pub row : List ℕ
   pub col : List ℕ
@@ -14,14 +14,27 @@ pub record Numbers : Type 0 where
   pub hi : List ℕ
 
 -- the entries, as many as every list has
-abbrev pub entries_in : Numbers → List matrix.Entry
-entries_in s = entries_of s.row s.col s.lo s.hi
+abbrev pub entries_by : Numbers → List matrix.Entry
+entries_by s = entries_of s.row s.col s.lo s.hi
 
 -- how many numbers each list has
 abbrev pub counts : Numbers → List ℕ
 counts s = length s.row ∷ length s.col ∷ length s.lo ∷ length s.hi ∷ []
 
--- those of a slice of records
+-- a matrix of n rows and m columns with these entries
+abbrev pub lent_by : ℕ → ℕ → Numbers → Lent
+lent_by n m s = lent n m s.row s.col s.lo s.hi
+
+-- rows and columns exchanged
+abbrev pub exchanged : Numbers → Numbers
+exchanged s = record { row = s.col; col = s.row; lo = s.lo; hi = s.hi }
+
+-- ---- records
+-- the entry that a record is
+abbrev pub entry_of : Entry → matrix.Entry
+entry_of e = entry e.row e.col e.lo e.hi
+
+-- the numbers of a slice of records
 abbrev pub record_numbers : List Entry → Numbers
 record_numbers es = record {
   row = map (λ e. e.row) es;

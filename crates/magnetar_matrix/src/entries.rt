@@ -1,11 +1,13 @@
-// The entries of a matrix, or of several that lie one behind the other, in whichever form they are lent.
+// The entries of a matrix, or of several that lie one behind the other, in whichever form they are lent: as four parallel number slices or as
+// one slice of records.
 ghost use Rattle.std.specs.Prelude.{◌≡◌, ◌<◌, length, slice_index};
-ghost use Rattle.magnetar_matrix.specs.Numbers.{Numbers, entries_in, counts, record_numbers};
+ghost use Rattle.magnetar_field.specs.Gf128.{value};
+ghost use Rattle.magnetar_matrix.specs.Numbers.{Numbers, entry_of, entries_by, counts, record_numbers, exchanged};
 
-use magnetar_field::sizes;
+use magnetar_field::gf128::Gf128;
 
 // An entry of a matrix: its place, and the low and high word of its value.
-#[derive(Clone, Copy)]
+#[derive(Clone, Copy, Debug, PartialEq, Eq)]
 pub struct Entry {
     pub row: usize,
     pub col: usize,
@@ -13,17 +15,30 @@ pub struct Entry {
     pub hi: u64,
 }
 
-// Entries, read off four lists of numbers.
+impl Entry {
+    // Its value.
+    #[inline]
+    pub fn value(self) -> Gf128
+        ensures { value result ≡ (entry_of self).value }
+    {
+        Gf128 {
+            lo: self.lo,
+            hi: self.hi,
+        }
+    }
+}
+
+// Entries that are read off four lists of numbers.
 pub trait Entries {
     ghost numbers: { Self → Numbers };
 
     // How many entries there are.
     fn len(&self) -> usize
-        ensures { result ≡ length (entries_in (numbers self.now)) };
+        ensures { result ≡ length (entries_by (numbers self.now)) };
 
     // Entry i.
     fn at(&self, i: usize) -> Entry
-        requires { i < length (entries_in (numbers self.now)) }
+        requires { i < length (entries_by (numbers self.now)) }
         ensures row { result.row ≡ slice_index (numbers self.now).row i }
         ensures col { result.col ≡ slice_index (numbers self.now).col i }
         ensures lo { result.lo ≡ slice_index (numbers self.now).lo i }
@@ -43,15 +58,18 @@ pub struct Slices<'a> {
     pub hi: &'a [u64],
 }
 
+#[tactic(auto, using(crate::proofs::EntryLists::lengths))]
 impl Entries for Slices<'_> {
     ghost numbers = { λ s. record { row = s.row.now; col = s.col.now; lo = s.lo.now; hi = s.hi.now } };
 
+    #[inline]
     fn len(&self) -> usize {
-        let a = sizes::least(self.row.len(), self.col.len());
-        let b = sizes::least(self.lo.len(), self.hi.len());
-        sizes::least(a, b)
+        let places = self.row.len().min(self.col.len());
+        let values = self.lo.len().min(self.hi.len());
+        places.min(values)
     }
 
+    #[inline]
     fn at(&self, i: usize) -> Entry {
         Entry {
             row: self.row[i],
@@ -72,13 +90,16 @@ pub struct Records<'a> {
     pub entries: &'a [Entry],
 }
 
+#[tactic(auto, using(crate::proofs::EntryLists::lengths))]
 impl Entries for Records<'_> {
     ghost numbers = { λ s. record_numbers s.entries.now };
 
+    #[inline]
     fn len(&self) -> usize {
         self.entries.len()
     }
 
+    #[inline]
     fn at(&self, i: usize) -> Entry {
         self.entries[i]
     }
@@ -86,5 +107,37 @@ impl Entries for Records<'_> {
     fn counts(&self) -> [usize; 4] {
         let n = self.entries.len();
         [n, n, n, n]
+    }
+}
+
+// Entries with row and column exchanged.
+#[derive(Clone, Copy)]
+pub struct Exchanged<'a, E> {
+    pub entries: &'a E,
+}
+
+#[tactic(auto, using(crate::proofs::EntryLists::lengths))]
+impl<E: Entries> Entries for Exchanged<'_, E> {
+    ghost numbers = { λ s. exchanged (E.numbers s.entries.now) };
+
+    #[inline]
+    fn len(&self) -> usize {
+        self.entries.len()
+    }
+
+    #[inline]
+    fn at(&self, i: usize) -> Entry {
+        let e = self.entries.at(i);
+        Entry {
+            row: e.col,
+            col: e.row,
+            lo: e.lo,
+            hi: e.hi,
+        }
+    }
+
+    fn counts(&self) -> [usize; 4] {
+        let n = self.entries.counts();
+        [n[1], n[0], n[2], n[3]]
     }
 }

@@ -2,4 +2,5 @@
 #![tactic(auto)]
 
 pub mod columns;
+pub mod entries;
 pub mod step;
