@@ -1,11 +1,13 @@
 -- The outcomes of a round of the verifier that is given the number n of coefficients wanted: refused, wrong or right.
 -- Source: document 01, "Who can be turned back" (11); the Rust's `round_external`.
 -- Assumes nothing.
-use Rattle.std.specs.Prelude.{Bool, false, not, List, ℕ, ◌*◌, eqb, length}
+use Rattle.std.specs.Prelude.{Bool, false, not, List, ℕ, ◌*◌, eqb, length, Result, Ok, Err}
 use Rattle.magnetar_field.specs.Gf128.{value}
+use Rattle.magnetar_field.specs.Number.{number}
 use Rattle.magnetar_field.specs.Polynomial.{eval}
 use Rattle.magnetar_field.specs.Refusal.{refuse, unless_refused}
 use Rattle.magnetar_field.specs.Words.{elements}
+use Rattle.magnetar_field.specs.declared.refusal.Refusal.{Refusal}
 use Rattle.magnetar_sumcheck_verifier.specs.declared.verify.Round.{Round}
 use Rattle.magnetar_sumcheck_verifier.specs.Round.{holds, next_claim}
 
@@ -20,9 +22,10 @@ pub record RoundLeft : Type 0 where
   pub holds : Bool
   pub claim : ℕ
 
--- the same of what the functions return
-abbrev pub left_by : Round → RoundLeft
-left_by o = record { code = o.code; holds = o.holds; claim = value o.claim }
+-- the same of what the functions return; one that is refused leaves the running claim c
+abbrev pub left_by : ℕ → Result Round Refusal → RoundLeft
+left_by c (Ok o) = record { code = 0; holds = o.holds; claim = value o.claim }
+left_by c (Err e) = record { code = number e; holds = false; claim = c }
 
 -- 11: the message is not of n coefficients
 unfoldable pub round_refusal : ℕ → List ℕ → ℕ

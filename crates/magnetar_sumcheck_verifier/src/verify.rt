@@ -8,8 +8,9 @@ ghost use Rattle.magnetar_sumcheck_verifier.specs.Outcome.{is_message, left_by, 
 ghost use Rattle.magnetar_sumcheck_verifier.specs.Outer.{outer_end};
 ghost use Rattle.magnetar_sumcheck_verifier.specs.Inner.{inner_end};
 
-use magnetar_field::gf128::Gf128;
-use magnetar_field::{gf128, words};
+use magnetar_field::gf128::{self, Gf128};
+use magnetar_field::refusal::{Refusal, require};
+use magnetar_field::words;
 
 // acc + t z.
 fn multiply_add(acc: Gf128, t: Gf128, z: Gf128) -> Gf128
@@ -18,10 +19,9 @@ fn multiply_add(acc: Gf128, t: Gf128, z: Gf128) -> Gf128
     gf128::add(acc, gf128::mul(t, z))
 }
 
-// What a round leaves: the number of its refusal or 0, whether the message was right, and the running claim.
+// What a round leaves: whether the message was right, and the running claim.
 #[derive(Clone, Copy)]
 pub struct Round {
-    pub code: u32,
     pub holds: bool,
     pub claim: Gf128,
 }
@@ -30,10 +30,8 @@ pub struct Round {
 fn check_sum(msg: &[u64]) -> Gf128
     ensures { value result ≡ check_sum (elements msg.now) }
 {
-    let mut acc = Gf128 { lo: 0, hi: 0 };
-    let mut i = msg.len() / 2;
-    while i > 1 {
-        i -= 1;
+    let mut acc = gf128::ZERO;
+    for i in (1..msg.len() / 2).rev() {
         acc = gf128::add(words::get(msg, i), acc);
     }
     acc
@@ -43,10 +41,7 @@ fn check_sum(msg: &[u64]) -> Gf128
 fn is_message(msg: &[u64], n: usize) -> bool
     ensures { result ≡ is_message n msg.now }
 {
-    if msg.len() % 2 != 0 {
-        return false;
-    }
-    msg.len() / 2 == n
+    msg.len() % 2 == 0 && msg.len() / 2 == n
 }
 
 // Whether the message is right for the running claim.
@@ -60,10 +55,8 @@ fn sum_holds(msg: &[u64], claim: Gf128) -> bool
 fn eval_message(msg: &[u64], r: Gf128) -> Gf128
     ensures { value result ≡ eval (elements msg.now) (value r) }
 {
-    let mut acc = Gf128 { lo: 0, hi: 0 };
-    let mut i = msg.len() / 2;
-    while i > 0 {
-        i -= 1;
+    let mut acc = gf128::ZERO;
+    for i in (0..msg.len() / 2).rev() {
         acc = multiply_add(words::get(msg, i), r, acc);
     }
     acc
@@ -71,39 +64,29 @@ fn eval_message(msg: &[u64], r: Gf128) -> Gf128
 
 // A round of a run whose checks go on behind one that does not pass: whether the message of n coefficients is right, and its value at the
 // challenge r as the next running claim, right or wrong. One that is refused with 11 leaves the claim.
-pub fn check_round(msg: &[u64], n: usize, claim: Gf128, r: Gf128) -> Round
-    ensures { left_by result ≡ check_outcome n msg.now (value claim) (value r) }
+pub fn check_round(msg: &[u64], n: usize, claim: Gf128, r: Gf128) -> Result<Round, Refusal>
+    ensures { left_by (value claim) result ≡ check_outcome n msg.now (value claim) (value r) }
 {
-    if !is_message(msg, n) {
-        return Round {
-            code: 11,
-            holds: false,
-            claim: claim,
-        };
-    }
-    let right = sum_holds(msg, claim);
-    let next = eval_message(msg, r);
-    Round {
-        code: 0,
-        holds: right,
-        claim: next,
-    }
+    require(is_message(msg, n), Refusal::Length)?;
+    Ok(Round {
+        holds: sum_holds(msg, claim),
+        claim: eval_message(msg, r),
+    })
 }
 
 // A round with the challenge r from outside, whose message has n coefficients: the check, and the next running claim. A wrong message
 // leaves the claim, and so does one that is refused with 11.
-pub fn round_external(msg: &[u64], n: usize, claim: Gf128, r: Gf128) -> Round
-    ensures { left_by result ≡ round_outcome n msg.now (value claim) (value r) }
+pub fn round_external(msg: &[u64], n: usize, claim: Gf128, r: Gf128) -> Result<Round, Refusal>
+    ensures { left_by (value claim) result ≡ round_outcome n msg.now (value claim) (value r) }
 {
-    let next = check_round(msg, n, claim, r);
+    let next = check_round(msg, n, claim, r)?;
     if next.holds {
-        return next;
+        return Ok(next);
     }
-    Round {
-        code: next.code,
+    Ok(Round {
         holds: false,
         claim: claim,
-    }
+    })
 }
 
 // The terminal identity of the outer sum-check: the running claim is e (a b + c), with eq(tau, r) for e. Two products.

@@ -1,17 +1,12 @@
-use mathlib.Core.Path.{sym, ◌∙◌}
-use Rattle.magnetar_field.specs.Gf128.{value}
-use Rattle.magnetar_sumcheck_verifier.proofs.Wanted.{check-refused, check-made}
+use Rattle.std.proofs.Common.{arith}
+use Rattle.magnetar_sumcheck_verifier.specs.Outcome.{check_outcome, round_refusal}
+use Rattle.magnetar_sumcheck_verifier.proofs.Wanted.{left}
 use Rattle.magnetar_sumcheck_verifier.proofs.verify.check_round.Goals as goal
 
-pub returns-then-not-is_message : goal.returns-then-not-is_message
-returns-then-not-is_message c =
-    let x = c.args in
-    check-refused x.n x.msg.now (value x.claim) (value x.r)
-    (sym c.is_message.ensures ∙ c.if-not-is_message.true)
+pub returns-in_err-require : goal.returns-in_err-require
+unfolding check_outcome round_refusal
+returns-in_err-require c = grind (arith, left)
 
 pub returns : goal.returns
-returns c =
-    let x = c.args in
-    let m = c.is_message in
-    rw (c.sum_holds-right.ensures, c.eval_message-next.ensures)
-    (check-made x.n x.msg.now (value x.claim) (value x.r) (sym m.ensures ∙ c.if-not-is_message.false))
+unfolding check_outcome round_refusal
+returns c = grind arith

@@ -5,6 +5,3 @@ use Rattle.magnetar_sumcheck_verifier.proofs.verify.check_sum.Given as goal
 
 abbrev pub invariant-loop-i : goal.invariant-loop-i
 invariant-loop-i l = Summed (elements l.msg) l.i (value l.acc)
-
-abbrev pub decreases-loop-i : goal.decreases-loop-i
-decreases-loop-i l = l.i

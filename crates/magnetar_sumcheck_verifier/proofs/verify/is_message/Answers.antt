@@ -1,8 +1,12 @@
-use Rattle.magnetar_sumcheck_verifier.proofs.Wanted.{odd-none, even-half}
+use Rattle.std.proofs.Common.{arith}
+use Rattle.std.proofs.lemmas.Bool.Decides.{nat_tests}
+use Rattle.magnetar_sumcheck_verifier.specs.Outcome.{is_message}
 use Rattle.magnetar_sumcheck_verifier.proofs.verify.is_message.Goals as goal
 
-pub returns-then-msg-ne0 : goal.returns-then-msg-ne0
-returns-then-msg-ne0 c = let x = c.args in odd-none x.n x.msg.now c.if-msg-ne0.true
+pub returns-then-msg-eq0 : goal.returns-then-msg-eq0
+unfolding is_message
+returns-then-msg-eq0 c = grind (arith, nat_tests)
 
-pub returns : goal.returns
-returns c = let x = c.args in even-half x.n x.msg.now c.if-msg-ne0.false
+pub returns-else-msg-eq0 : goal.returns-else-msg-eq0
+unfolding is_message
+returns-else-msg-eq0 c = grind (arith, nat_tests)

@@ -1,16 +1,17 @@
-use Rattle.magnetar_field.specs.Gf128.{value}
-use Rattle.magnetar_sumcheck_verifier.specs.Outcome.{left_by}
-use Rattle.magnetar_sumcheck_verifier.proofs.Wanted.{external-right, external-wrong}
+use Rattle.std.proofs.Common.{arith}
+use Rattle.magnetar_sumcheck_verifier.specs.Outcome.{check_outcome, round_outcome, round_refusal}
+use Rattle.magnetar_sumcheck_verifier.specs.Round.{next_claim}
+use Rattle.magnetar_sumcheck_verifier.proofs.Wanted.{left}
 use Rattle.magnetar_sumcheck_verifier.proofs.verify.round_external.Goals as goal
 
+pub returns-in_err-next : goal.returns-in_err-next
+unfolding check_outcome round_outcome round_refusal
+returns-in_err-next c = grind (arith, left)
+
 pub returns-then-next : goal.returns-then-next
-returns-then-next c =
-    let x = c.args in
-    let o = c.check_round-next in
-    external-right x.n x.msg.now (value x.claim) (value x.r) (left_by o.result) o.ensures c.if-next.true
+unfolding check_outcome round_outcome round_refusal next_claim
+returns-then-next c = grind arith
 
 pub returns : goal.returns
-returns c =
-    let x = c.args in
-    let o = c.check_round-next in
-    external-wrong x.n x.msg.now (value x.claim) (value x.r) (left_by o.result) o.ensures c.if-next.false
+unfolding check_outcome round_outcome round_refusal next_claim
+returns c = grind arith
