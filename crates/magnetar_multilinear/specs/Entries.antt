@@ -1,10 +1,11 @@
 -- The outcomes of the entries over tables: which refusal applies, in rising order, and what each lent slice holds at exit.
 -- Source: document 01, "Field and eq tables", "Who can be turned back" (11 and 15) and "The run" (scratch words); document 02, U5.
 -- Assumes nothing.
-use Rattle.std.specs.Prelude.{Bool, not, ◌||◌, List, ◌++◌, ℕ, ◌*◌, ◌/◌, ◌%◌, ◌^◌, eqb, ltb, length, drop, replicate}
-use Rattle.magnetar_field.specs.declared.gf128.Evaluated.{Evaluated}
-use Rattle.magnetar_field.specs.declared.gf128.Evaluated.TheVariants.{Value, Refused}
+use Rattle.std.specs.Prelude.{Bool, not, ◌||◌, List, ◌++◌, ℕ, ◌*◌, ◌/◌, ◌%◌, ◌^◌, eqb, ltb, length, drop, replicate, Result, Ok, Err}
+use Rattle.magnetar_field.specs.declared.gf128.Gf128.{Gf128}
+use Rattle.magnetar_field.specs.declared.refusal.Refusal.{Refusal}
 use Rattle.magnetar_field.specs.Gf128.{value}
+use Rattle.magnetar_field.specs.Number.{number}
 use Rattle.magnetar_field.specs.Refusal.{refuse, unless_refused}
 use Rattle.magnetar_field.specs.Sizes.{log₂}
 use Rattle.magnetar_field.specs.Words.{elements, words}
@@ -16,10 +17,10 @@ pub data Answer : Type 0 where
   element : ℕ → Answer
   refusal : ℕ → Answer
 
--- the answer that a value of the code's enum is
-abbrev pub answer : Evaluated → Answer
-answer (Value e) = element (value e)
-answer (Refused n) = refusal n
+-- the answer that a result of the code is
+abbrev pub answer : Result Gf128 Refusal → Answer
+answer (Ok e) = element (value e)
+answer (Err r) = refusal (number r)
 
 -- the element v, unless n is a refusal
 abbrev pub answered : ℕ → ℕ → Answer

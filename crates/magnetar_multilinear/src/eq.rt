@@ -1,13 +1,15 @@
 // Equality tables: eq(p, i) is the product over j of p_j where bit j of i is 1, and of 1 + p_j where it is 0; a table from a start has
 // that element times each.
-ghost use Rattle.std.specs.Prelude.{◌≡◌, ◌+◌, ◌*◌, ◌^◌, ◌≤◌, ◌<◌, length, take};
+ghost use Rattle.std.specs.Prelude.{◌≡◌, ◌+◌, ◌*◌, ◌/◌, ◌%◌, ◌^◌, ◌≤◌, ◌<◌, length, take};
 ghost use Rattle.magnetar_field.specs.Gf128.{value};
+ghost use Rattle.magnetar_field.specs.Number.{number_of};
 ghost use Rattle.magnetar_field.specs.Words.{elements};
 ghost use Rattle.magnetar_multilinear.specs.EqTable.{eq_factor, eq_at_bits, eq_table_from};
 ghost use Rattle.magnetar_multilinear.specs.Doubling.{split_entry, doubled};
 ghost use Rattle.magnetar_multilinear.specs.Entries.{answer, answered, eq_refusal, eq_out, eq_at_bits_refusal};
 
-use magnetar_field::gf128::{Evaluated, Gf128, ONE};
+use magnetar_field::gf128::{Gf128, ONE};
+use magnetar_field::refusal::{Refusal, require};
 use magnetar_field::{gf128, words};
 
 // The factor of one variable.
@@ -19,17 +21,12 @@ pub fn eq_char2(x: Gf128, b: bool) -> Gf128
 
 // The value of eq at the point and the bits, bit 0 that of the point's first element.
 // 11: not as many bits as the point has elements.
-pub fn eq_table(point: &[u64], bits: &[bool]) -> Evaluated
+#[tactic(auto, using(crate::proofs::Refusals::answer_handed), unfolding(crate::specs::Entries::eq_at_bits_refusal))]
+pub fn eq_table(point: &[u64], bits: &[bool]) -> Result<Gf128, Refusal>
     ensures { answer result ≡ answered (eq_at_bits_refusal point.now bits.now) (eq_at_bits (elements point.now) bits.now) }
 {
-    if point.len() % 2 != 0 {
-        return Evaluated::Refused(11);
-    }
-    let n = point.len() / 2;
-    if n != bits.len() {
-        return Evaluated::Refused(11);
-    }
-    Evaluated::Value(eq_product(point, bits, n))
+    require(point.len() == 2 * bits.len(), Refusal::Length)?;
+    Ok(eq_product(point, bits))
 }
 
 // Tables of eq.
@@ -38,24 +35,17 @@ pub struct EqBits {}
 
 impl EqBits {
     // The table of eq at the point, from start: each entry times it. From 1 it is the table itself, from 0 it is zeros.
-    // 11: no point of at most 20 elements; 15: too little room; 0: out begins with the table.
-    pub fn build(point: &[u64], start: Gf128, out: &mut [u64]) -> u32
-        ensures refusal { result ≡ eq_refusal point.now out.old }
+    // 11: no point of at most 20 elements; 15: too little room; else out begins with the table.
+    #[tactic(auto, using(magnetar_field::proofs::Handed::handed), unfolding(crate::specs::Entries::eq_refusal))]
+    pub fn build(point: &[u64], start: Gf128, out: &mut [u64]) -> Result<(), Refusal>
+        ensures refusal { number_of result ≡ eq_refusal point.now out.old }
         ensures table { out.new ≡ eq_out point.now (value start) out.old }
     {
-        if point.len() % 2 != 0 {
-            return 11;
-        }
-        if point.len() > 40 {
-            return 11;
-        }
-        let n = point.len() / 2;
-        let need = table_words(n);
-        if out.len() < need {
-            return 15;
-        }
-        fill(point, start, &mut out[..need], n);
-        0
+        require(point.len() % 2 == 0 && point.len() <= 40, Refusal::Length)?;
+        let need = table_words(point.len() / 2);
+        require(need <= out.len(), Refusal::Room)?;
+        fill(point, start, &mut out[..need]);
+        Ok(())
     }
 }
 
@@ -67,15 +57,13 @@ pub(crate) fn table_words(n: usize) -> usize
     2 << n
 }
 
-// The product of the factors of all n variables.
-fn eq_product(point: &[u64], bits: &[bool], n: usize) -> Gf128
-    requires { (length point.now ≡ 2 * n) × (length bits.now ≡ n) }
+// The product of the factors of all variables.
+fn eq_product(point: &[u64], bits: &[bool]) -> Gf128
+    requires { length point.now ≡ 2 * length bits.now }
     ensures { value result ≡ eq_at_bits (elements point.now) bits.now }
 {
     let mut acc = ONE;
-    let mut j = n;
-    while j > 0 {
-        j -= 1;
+    for j in (0..bits.len()).rev() {
         acc = gf128::mul(eq_char2(words::get(point, j), bits[j]), acc);
     }
     acc
@@ -97,24 +85,20 @@ fn expand(out: &mut [u64], m: usize, r: Gf128)
     requires { 4 * m ≤ length out.old }
     ensures { take (2 * m) (elements out.new) ≡ doubled (value r) (take m (elements out.old)) }
 {
-    let mut i = m;
-    while i > 0 {
-        i -= 1;
+    for i in (0..m).rev() {
         split_entry(out, i, r);
     }
 }
 
-// Fills out with the table of eq at the point's n elements, from start: the last element first, one product and one sum for each entry
+// Fills out with the table of eq at the point, from start: the last element first, one product and one sum for each entry
 // that is split. The start costs no product: it stands where a plain table begins with 1.
-fn fill(point: &[u64], start: Gf128, out: &mut [u64], n: usize)
-    requires { (n ≤ 20) × (length point.now ≡ 2 * n) × (length out.old ≡ 2 * 2 ^ n) }
+fn fill(point: &[u64], start: Gf128, out: &mut [u64])
+    requires { (length point.now % 2 ≡ 0) × (length point.now ≤ 40) × (length out.old ≡ 2 * 2 ^ (length point.now / 2)) }
     ensures { elements out.new ≡ eq_table_from (value start) (elements point.now) }
 {
     words::put(out, 0, start);
-    let mut j = n;
     let mut m = 1;
-    while j > 0 {
-        j -= 1;
+    for j in (0..point.len() / 2).rev() {
         expand(out, m, words::get(point, j));
         m = 2 * m;
     }

@@ -1,55 +1,46 @@
 // Multilinear tables: entry i of a table of 2^n entries is the value at the bits of i, bit 0 that of variable 0.
 ghost use Rattle.std.specs.Prelude.{◌≡◌, ◌++◌, ◌+◌, ◌*◌, ◌/◌, ◌%◌, ◌^◌, ◌≤◌, ◌<◌, length, get_or, set, take, drop, replicate};
 ghost use Rattle.magnetar_field.specs.Gf128.{value};
+ghost use Rattle.magnetar_field.specs.Number.{number_of};
 ghost use Rattle.magnetar_field.specs.Words.{elements};
 ghost use Rattle.magnetar_multilinear.specs.Multilinear.{dot, mle, line, bind_var};
 ghost use Rattle.magnetar_multilinear.specs.Binding.{BindFits};
 ghost use Rattle.magnetar_multilinear.specs.Entries.{answer, answered, mle_refusal, mle_scratch, bind_refusal, bind_out};
 
 use crate::eq;
-use magnetar_field::gf128::{Evaluated, Gf128, ZERO};
+use magnetar_field::gf128::{Gf128, ZERO};
+use magnetar_field::refusal::{Refusal, require};
 use magnetar_field::{gf128, sizes, words};
 
 // Binds variable var of the table to r: the table's first half becomes the bound table, its second half stays.
 // 11: the words are no table of 2^n elements, or it has no variable var.
-pub fn bind_var(table: &mut [u64], var: usize, r: Gf128) -> u32
-    ensures refusal { result ≡ bind_refusal table.old var }
+#[tactic(auto, using(magnetar_field::proofs::Handed::handed), unfolding(crate::specs::Entries::bind_refusal))]
+pub fn bind_var(table: &mut [u64], var: usize, r: Gf128) -> Result<(), Refusal>
+    ensures refusal { number_of result ≡ bind_refusal table.old var }
     ensures bound { table.new ≡ bind_out table.old var (value r) }
 {
     let n = sizes::log2(table.len() / 2);
-    if table.len() != eq::table_words(n) {
-        return 11;
-    }
-    if var >= n {
-        return 11;
-    }
+    require(
+        table.len() == eq::table_words(n) && var < n,
+        Refusal::Length,
+    )?;
     let pairs = table.len() / 4;
     bind(table, pairs, var, r);
-    0
+    Ok(())
 }
 
 // The value at the point of the multilinear polynomial with the given table of values.
 // 11: no point of at most 20 elements, or not a value for each entry; 15: too little scratch.
-pub fn eval_mle(values: &[u64], point: &[u64], scratch: &mut [u64]) -> Evaluated
+#[tactic(auto, using(crate::proofs::Refusals::answer_handed), unfolding(crate::specs::Entries::mle_refusal))]
+pub fn eval_mle(values: &[u64], point: &[u64], scratch: &mut [u64]) -> Result<Gf128, Refusal>
     ensures value { answer result ≡ answered (mle_refusal values.now point.now scratch.old) (mle (elements values.now) (elements point.now)) }
     ensures cleared { scratch.new ≡ mle_scratch values.now point.now scratch.old }
 {
-    if point.len() % 2 != 0 {
-        return Evaluated::Refused(11);
-    }
-    if point.len() > 40 {
-        return Evaluated::Refused(11);
-    }
-    let n = point.len() / 2;
-    let need = eq::table_words(n);
-    if values.len() != need {
-        return Evaluated::Refused(11);
-    }
-    if scratch.len() < need {
-        return Evaluated::Refused(15);
-    }
-    let e = eval_in(values, point, &mut scratch[..need], n);
-    Evaluated::Value(e)
+    require(point.len() % 2 == 0 && point.len() <= 40, Refusal::Length)?;
+    let need = eq::table_words(point.len() / 2);
+    require(values.len() == need, Refusal::Length)?;
+    require(need <= scratch.len(), Refusal::Room)?;
+    Ok(eval_in(values, point, &mut scratch[..need]))
 }
 
 // The sum of the products of the elements of two slices, index by index, as many as both have.
@@ -57,9 +48,7 @@ pub fn dot(xs: &[u64], ys: &[u64]) -> Gf128
     ensures { value result ≡ dot (elements xs.now) (elements ys.now) }
 {
     let mut acc = ZERO;
-    let mut j = sizes::least(xs.len(), ys.len()) / 2;
-    while j > 0 {
-        j -= 1;
+    for j in (0..xs.len().min(ys.len()) / 2).rev() {
         acc = gf128::add(gf128::mul(words::get(xs, j), words::get(ys, j)), acc);
     }
     acc
@@ -81,10 +70,8 @@ fn bind(t: &mut [u64], pairs: usize, v: usize, r: Gf128)
     ensures { elements t.new ≡ bind_var v (value r) (take (2 * pairs) (elements t.old)) ++ drop pairs (elements t.old) }
 {
     let block = sizes::power_of_two(v);
-    let mut i = 0;
-    while i < pairs {
+    for i in 0..pairs {
         bind_entry(t, i, insert_zero(i, block), block, r);
-        i += 1;
     }
 }
 
@@ -97,27 +84,26 @@ fn insert_zero(i: usize, block: usize) -> usize
 }
 
 // Binds every variable, the highest first; entry 0 is then the value at the point.
-fn bind_all(point: &[u64], t: &mut [u64], n: usize)
-    requires { (n ≤ 20) × (length point.now ≡ 2 * n) × (length t.old ≡ 2 * 2 ^ n) }
+fn bind_all(point: &[u64], t: &mut [u64])
+    requires { (length point.now % 2 ≡ 0) × (length point.now ≤ 40) × (length t.old ≡ 2 * 2 ^ (length point.now / 2)) }
     ensures { get_or (elements t.new) 0 0 ≡ mle (elements t.old) (elements point.now) }
 {
-    let mut j = n;
     let mut half = t.len() / 2;
-    while j > 0 {
-        j -= 1;
+    for j in (0..point.len() / 2).rev() {
         half = half / 2;
         bind(t, half, j, words::get(point, j));
     }
 }
 
 // The value at the point, with t as room, which is left zero.
-fn eval_in(values: &[u64], point: &[u64], t: &mut [u64], n: usize) -> Gf128
-    requires { (n ≤ 20) × (length point.now ≡ 2 * n) × (length values.now ≡ 2 * 2 ^ n) × (length t.old ≡ length values.now) }
+fn eval_in(values: &[u64], point: &[u64], t: &mut [u64]) -> Gf128
+    requires point { (length point.now % 2 ≡ 0) × (length point.now ≤ 40) }
+    requires sizes { (length values.now ≡ 2 * 2 ^ (length point.now / 2)) × (length t.old ≡ length values.now) }
     ensures value { value result ≡ mle (elements values.now) (elements point.now) }
     ensures cleared { t.new ≡ replicate (length values.now) 0 }
 {
     words::copy(values, t);
-    bind_all(point, t, n);
+    bind_all(point, t);
     let e = words::get(t, 0);
     words::clear(t);
     e

@@ -1,5 +1,4 @@
 use mathlib.Core.Path.{◌≡◌}
-use Prim.Native.Nat.{◌≤◌}
 use lib.ListN.{drop}
 use Rattle.magnetar_field.specs.Gf128.{value}
 use Rattle.magnetar_field.specs.Words.{elements}
@@ -7,7 +6,4 @@ use Rattle.magnetar_multilinear.specs.EqTable.{eq_at_bits}
 use Rattle.magnetar_multilinear.proofs.eq.eq_product.Given as goal
 
 abbrev pub invariant-loop-j : goal.invariant-loop-j
-invariant-loop-j l = (l.j ≤ l.n) × (value l.acc ≡ eq_at_bits (drop l.j (elements l.point)) (drop l.j l.bits))
-
-abbrev pub decreases-loop-j : goal.decreases-loop-j
-decreases-loop-j l = l.j
+invariant-loop-j l = value l.acc ≡ eq_at_bits (drop l.j (elements l.point)) (drop l.j l.bits)

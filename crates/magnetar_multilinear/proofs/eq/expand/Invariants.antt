@@ -1,5 +1,4 @@
 use mathlib.Core.Path.{◌≡◌}
-use Prim.Native.Nat.{◌≤◌}
 use lib.ListN.{length}
 use Rattle.magnetar_field.specs.Gf128.{value}
 use Rattle.magnetar_field.specs.Words.{elements}
@@ -7,7 +6,4 @@ use Rattle.magnetar_multilinear.proofs.Doublings.{Split}
 use Rattle.magnetar_multilinear.proofs.eq.expand.Given as goal
 
 abbrev pub invariant-loop-i : goal.invariant-loop-i
-invariant-loop-i l = (l.i ≤ l.m) × (length l.out ≡ length l.initial.out) × Split l.m (value l.r) (elements l.initial.out) (elements l.out) l.i
-
-abbrev pub decreases-loop-i : goal.decreases-loop-i
-decreases-loop-i l = l.i
+invariant-loop-i l = (length l.out ≡ length l.initial.out) × Split l.m (value l.r) (elements l.initial.out) (elements l.out) l.i

@@ -1,5 +1,5 @@
 use mathlib.Core.Path.{◌≡◌}
-use Prim.Native.Nat.{◌≤◌, ◌-◌, ◌^◌}
+use Prim.Native.Nat.{◌^◌}
 use lib.ListN.{length}
 use Rattle.magnetar_field.specs.Gf128.{value}
 use Rattle.magnetar_field.specs.Words.{elements}
@@ -8,7 +8,4 @@ use Rattle.magnetar_multilinear.proofs.Bound.{bound_at}
 use Rattle.magnetar_multilinear.proofs.multilinear.bind.Given as goal
 
 abbrev pub invariant-loop-i : goal.invariant-loop-i
-invariant-loop-i l = (l.i ≤ l.pairs) × (l.block ≡ 2 ^ l.v) × (length l.t ≡ length l.initial.t) × Made (bound_at l.v (value l.r) (elements l.initial.t)) (elements l.initial.t) (elements l.t) l.i
-
-abbrev pub decreases-loop-i : goal.decreases-loop-i
-decreases-loop-i l = l.pairs - l.i
+invariant-loop-i l = (l.block ≡ 2 ^ l.v) × (length l.t ≡ length l.initial.t) × Made (bound_at l.v (value l.r) (elements l.initial.t)) (elements l.initial.t) (elements l.t) l.i

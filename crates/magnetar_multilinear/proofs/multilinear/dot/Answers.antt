@@ -9,17 +9,17 @@ use Rattle.magnetar_multilinear.proofs.multilinear.dot.Goals as goal
 pub loop-j-init : goal.loop-j-init
 loop-j-init c =
     let x = c.args in
-    (omega arith, omega arith, sym (dot-none x.xs.now x.ys.now c.least-j.result c.least-j.ensures.0))
+    sym (dot-none x.xs.now x.ys.now c.min-j.result c.min-j.ensures)
 
 pub loop-j-preserved : goal.loop-j-preserved
 loop-j-preserved c =
     let l = c.loop-j in
     let x = c.args in
-    let g = dot-more (elements x.xs.now) (elements x.ys.now) l.j (value l.acc) (omega arith) (rw elements-length l.invariant.0) (rw elements-length l.invariant.1) l.invariant.2 in
-    (omega arith, omega arith, rw (c.add-acc.ensures, c.mul.ensures, c.get.ensures, c.get-in-loop-j.ensures) g)
+    let g = dot-more (elements x.xs.now) (elements x.ys.now) l.j (value l.acc) (omega arith) (rw elements-length (omega arith)) (rw elements-length (omega arith)) l.invariant in
+    rw (c.add-acc.ensures, c.mul.ensures, c.get.ensures, c.get-in-loop-j.ensures) g
 
 pub returns : goal.returns
 returns c =
     let l = c.loop-j in
     let e : l.j ≡ 0 = omega arith in
-    rw e at l.invariant.2
+    rw e at l.invariant
