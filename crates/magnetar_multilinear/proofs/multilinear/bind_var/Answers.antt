@@ -7,7 +7,7 @@ use Rattle.magnetar_field.proofs.Log2.{log₂-half}
 use Rattle.magnetar_multilinear.proofs.Bound.{power-fits, quarter}
 use Rattle.magnetar_field.specs.Gf128.{value}
 use Rattle.magnetar_multilinear.specs.Multilinear.{bind_var}
-use Rattle.magnetar_multilinear.specs.Entries.{bind_refusal}
+use Rattle.magnetar_multilinear.proofs.Refusals.{bind-none}
 use Rattle.magnetar_field.specs.Words.{elements}
 use Rattle.magnetar_field.proofs.Elements.{elements-length, rejoin}
 use lib.Seq.{take_all}
@@ -25,13 +25,12 @@ bind-requires c =
     power-fits _ c.log2-n.result _ (omega (arith, c.log2-n.ensures.0, small)) there size
 
 pub returns-clause-bound : goal.returns-clause-bound
-unfolding bind_refusal
 returns-clause-bound c =
     let x = c.args in
     let t = x.table.now in
     let s : length t ≡ 2 * 2 ^ log₂ (length t / 2) = grind (arith) in
     let there : x.var < log₂ (length t / 2) = grind (arith) in
-    let e : bind_refusal t x.var ≡ 0 = grind (arith) in
+    let e = bind-none t x.var s there in
     let h : 2 * (length t / 4) ≡ length t / 2 = quarter (length t) (log₂ (length t / 2)) x.var there s in
     let all : take (2 * (length t / 4)) (elements t) ≡ elements t = take_all (2 * (length t / 4)) (elements t) (rw elements-length (omega arith)) in
     let j =
