@@ -1,16 +1,17 @@
--- Entries read off four lists of numbers, which may be of unequal lengths: how many there are, and one of them; those of records, and with
--- rows and columns exchanged.
+-- Entries read off four lists of numbers, which may be of unequal lengths: how many there are, and one of them; those of records, those with
+-- rows and columns exchanged, and those of a part.
 -- Assumes nothing.
-use mathlib.Core.Path.{◌≡◌, refl, sym, ap, ◌∙◌}
+use mathlib.Core.Path.{◌≡◌, refl, ap, ◌∙◌}
 use mathlib.Core.List.{List, [], ◌∷◌, map}
-use Prim.Native.Nat.{ℕ, zero, suc, ◌+◌, ◌≤◌, ◌<◌, min}
+use Prim.Native.Nat.{ℕ, zero, suc, ◌+◌, ◌-◌, ◌<◌, min}
 use native.Mathlib.Nat.{le_of_suc-le-suc}
 use native.Mathlib.Numerals.{add-one}
 use native.Mathlib.Omega.{arith}
-use lib.ListN.{length, get_or, drop}
+use lib.ListN.{length, get_or, take, drop, length-drop}
+use Rattle.std.proofs.lemmas.List.{length-take, get_or-take, get_or-drop}
 use Rattle.magnetar_matrix.specs.Matrix as matrix
 use Rattle.magnetar_matrix.specs.Lent.{entry, entries_of}
-use Rattle.magnetar_matrix.specs.Numbers.{Numbers, entries_by, exchanged, entry_of, record_numbers}
+use Rattle.magnetar_matrix.specs.Numbers.{Numbers, entries_by, exchanged, part, entry_of, record_numbers}
 use Rattle.magnetar_matrix.specs.declared.entries.Entry.{Entry}
 use Rattle.magnetar_matrix.proofs.Walked.{entries-swapped}
 
@@ -65,6 +66,59 @@ exchanged-are s = entries-swapped s.row s.col s.lo s.hi
 pub exchanged-length : (s : Numbers) → length (entries_by (exchanged s)) ≡ length (entries_by s)
 exchanged-length s = omega (arith, entries-length s.row s.col s.lo s.hi, entries-length s.col s.row s.lo s.hi)
 
+-- ---- a part of each list holds a part of the entries
+no-cols : (r l h : List ℕ) → entries_of r [] l h ≡ []
+unfolding entries_of
+no-cols [] l h = refl
+no-cols (x ∷ r) l h = refl
+
+no-lows : (r c h : List ℕ) → entries_of r c [] h ≡ []
+unfolding entries_of
+no-lows [] c h = refl
+no-lows (x ∷ r) [] h = refl
+no-lows (x ∷ r) (y ∷ c) h = refl
+
+no-highs : (r c l : List ℕ) → entries_of r c l [] ≡ []
+unfolding entries_of
+no-highs [] c l = refl
+no-highs (x ∷ r) [] l = refl
+no-highs (x ∷ r) (y ∷ c) [] = refl
+no-highs (x ∷ r) (y ∷ c) (z ∷ l) = refl
+
+entries-drop : (d : ℕ) (r c l h : List ℕ) → entries_of (drop d r) (drop d c) (drop d l) (drop d h) ≡ drop d (entries_of r c l h)
+unfolding entries_of
+entries-drop zero r c l h = refl
+entries-drop (suc d) [] c l h = refl
+entries-drop (suc d) (x ∷ r) [] l h = no-cols (drop d r) (drop (suc d) l) (drop (suc d) h)
+entries-drop (suc d) (x ∷ r) (y ∷ c) [] h = no-lows (drop d r) (drop d c) (drop (suc d) h)
+entries-drop (suc d) (x ∷ r) (y ∷ c) (z ∷ l) [] = no-highs (drop d r) (drop d c) (drop d l)
+entries-drop (suc d) (x ∷ r) (y ∷ c) (z ∷ l) (u ∷ h) = entries-drop d r c l h
+
+entries-take : (k : ℕ) (r c l h : List ℕ) → entries_of (take k r) (take k c) (take k l) (take k h) ≡ take k (entries_of r c l h)
+unfolding entries_of
+entries-take zero r c l h = refl
+entries-take (suc k) [] c l h = refl
+entries-take (suc k) (x ∷ r) [] l h = refl
+entries-take (suc k) (x ∷ r) (y ∷ c) [] h = refl
+entries-take (suc k) (x ∷ r) (y ∷ c) (z ∷ l) [] = refl
+entries-take (suc k) (x ∷ r) (y ∷ c) (z ∷ l) (u ∷ h) = ap (λ (es : List matrix.Entry). entry x y z u ∷ es) (entries-take k r c l h)
+
+pub entries-part : (k d : ℕ) (r c l h : List ℕ)
+    → entries_of (take k (drop d r)) (take k (drop d c)) (take k (drop d l)) (take k (drop d h)) ≡ take k (drop d (entries_of r c l h))
+entries-part k d r c l h = entries-take k (drop d r) (drop d c) (drop d l) (drop d h) ∙ ap (take k) (entries-drop d r c l h)
+
+pub part-are : (a b : ℕ) (s : Numbers) → entries_by (part a b s) ≡ take (b - a) (drop a (entries_by s))
+part-are a b s = entries-part (b - a) a s.row s.col s.lo s.hi
+
+pub part-length : (a b : ℕ) (s : Numbers) → length (entries_by (part a b s)) ≡ min b (length (entries_by s)) - a
+part-length a b s = rw part-are (rw (length-take, length-drop) (omega arith))
+
+pub part-within : (a b i : ℕ) (s : Numbers) → i < length (entries_by (part a b s)) → (a + i < length (entries_by s)) × (i < b - a)
+part-within a b i s h = let k : i < min b (length (entries_by s)) - a = rw part-length at h in (omega arith, omega arith)
+
+pub part-get : (a b i : ℕ) (l : List ℕ) → i < b - a → get_or (take (b - a) (drop a l)) i 0 ≡ get_or l (a + i) 0
+part-get a b i l h = get_or-take (b - a) (drop a l) i 0 h ∙ get_or-drop a l i 0
+
 -- ---- records
 pub records_are : (es : List Entry) → entries_by (record_numbers es) ≡ map entry_of es
 unfolding entries_of
@@ -79,4 +133,4 @@ pub records-length : (es : List Entry) → length (entries_by (record_numbers es
 records-length es = ap length (records_are es) ∙ map-length entry_of es
 
 -- how many entries each form has
-pub ruleset lengths = (entries-length, exchanged-length, records-length)
+pub ruleset lengths = (entries-length, exchanged-length, part-length, records-length)

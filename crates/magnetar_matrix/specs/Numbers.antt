@@ -1,7 +1,7 @@
 -- The four lists of numbers that entries are read off, in whichever form they are lent.
 -- Source: document 01, "Forms that give way" (parallel number slices, and a slice of entry records).
 -- Assumes nothing.
-use Rattle.std.specs.Prelude.{List, [], ◌∷◌, ℕ, map, length}
+use Rattle.std.specs.Prelude.{List, [], ◌∷◌, ℕ, ◌-◌, map, length, take, drop}
 use Rattle.magnetar_matrix.specs.Matrix as matrix
 use Rattle.magnetar_matrix.specs.Lent.{Lent, lent, entry, entries_of}
 use Rattle.magnetar_matrix.specs.declared.entries.Entry.{Entry}
@@ -28,6 +28,15 @@ lent_by n m s = lent n m s.row s.col s.lo s.hi
 -- rows and columns exchanged
 abbrev pub exchanged : Numbers → Numbers
 exchanged s = record { row = s.col; col = s.row; lo = s.lo; hi = s.hi }
+
+-- those from place a to place b
+abbrev pub part : ℕ → ℕ → Numbers → Numbers
+part a b s = record {
+  row = take (b - a) (drop a s.row);
+  col = take (b - a) (drop a s.col);
+  lo = take (b - a) (drop a s.lo);
+  hi = take (b - a) (drop a s.hi);
+}
 
 -- ---- records
 -- the entry that a record is

@@ -1,8 +1,8 @@
 // The entries of a matrix, or of several that lie one behind the other, in whichever form they are lent: as four parallel number slices or as
 // one slice of records.
-ghost use Rattle.std.specs.Prelude.{◌≡◌, ◌<◌, length, slice_index};
+ghost use Rattle.std.specs.Prelude.{◌≡◌, ◌<◌, ◌-◌, length, min, slice_index};
 ghost use Rattle.magnetar_field.specs.Gf128.{value};
-ghost use Rattle.magnetar_matrix.specs.Numbers.{Numbers, entry_of, entries_by, counts, record_numbers, exchanged};
+ghost use Rattle.magnetar_matrix.specs.Numbers.{Numbers, entry_of, entries_by, counts, record_numbers, exchanged, part};
 
 use magnetar_field::gf128::Gf128;
 
@@ -139,5 +139,48 @@ impl<E: Entries> Entries for Exchanged<'_, E> {
     fn counts(&self) -> [usize; 4] {
         let n = self.entries.counts();
         [n[1], n[0], n[2], n[3]]
+    }
+}
+
+// The entries from one place to another, as far as there are any.
+#[derive(Clone, Copy)]
+pub struct Part<'a, E> {
+    pub entries: &'a E,
+    pub from: usize,
+    pub to: usize,
+}
+
+impl<E> Part<'_, E> {
+    // How many of n numbers these are.
+    #[inline]
+    fn held(&self, n: usize) -> usize
+        ensures { result ≡ min self.now.to n - self.now.from }
+    {
+        self.to.min(n).saturating_sub(self.from)
+    }
+}
+
+#[tactic(auto, using(crate::proofs::EntryLists::lengths))]
+impl<E: Entries> Entries for Part<'_, E> {
+    ghost numbers = { λ s. part s.from s.to (E.numbers s.entries.now) };
+
+    #[inline]
+    fn len(&self) -> usize {
+        self.held(self.entries.len())
+    }
+
+    #[inline]
+    fn at(&self, i: usize) -> Entry {
+        self.entries.at(self.from + i)
+    }
+
+    fn counts(&self) -> [usize; 4] {
+        let n = self.entries.counts();
+        [
+            self.held(n[0]),
+            self.held(n[1]),
+            self.held(n[2]),
+            self.held(n[3]),
+        ]
     }
 }
