@@ -1,6 +1,8 @@
 -- Laws of numbers as bytes.
 -- Assumes nothing.
 use Rattle.std.proofs.Common.{◌≡◌, ℕ, zero, suc, ◌+◌, ◌*◌, ◌/◌, ◌%◌, ◌^◌, ◌<◌, List, [], ◌∷◌, ◌++◌, length, get_or, sym, refl, ap, ◌∙◌, ap₂, append-nil, le_of_suc-le-suc, not-suc-le-zero, suc-add, zero-add, div-one, arith, length-append, shr-shr}
+use Rattle.std.specs.Int.{to_le_bytes}
+use mir.Syntax.{w64}
 use lib.Pow.{field, mod-mod-pow}
 use Rattle.magnetar_hash.specs.Bytes.{le_bytes, number, word_bytes}
 
@@ -69,3 +71,15 @@ length-words (w ∷ ws) =
 pub one_word : (w : ℕ) → word_bytes (w ∷ []) ≡ le_bytes 8 w
 unfolding word_bytes
 one_word w = append-nil (le_bytes 8 w)
+
+-- the bytes of a word that std's method of this name gives
+pub le-eight : (x : ℕ) → to_le_bytes w64 x ≡ le_bytes 8 x
+unfolding le_bytes
+le-eight x =
+    let b : x / 256 / 256 ≡ x / 65536 = omega arith in
+    let c : x / 65536 / 256 ≡ x / 16777216 = omega arith in
+    let d : x / 16777216 / 256 ≡ x / 4294967296 = omega arith in
+    let e : x / 4294967296 / 256 ≡ x / 1099511627776 = omega arith in
+    let f : x / 1099511627776 / 256 ≡ x / 281474976710656 = omega arith in
+    let g : x / 281474976710656 / 256 ≡ x / 72057594037927936 = omega arith in
+    simp (b, c, d, e, f, g)

@@ -1,10 +1,11 @@
 -- Parts as one byte string, and the hash of it.
 -- Source: document 01, "Hash and transcript"; the Rust's `serialize_parts` and `sha3_domain`.
 -- Assumes nothing.
-use Rattle.std.specs.Prelude.{ℕ, ◌+◌, cond, List, [], ◌∷◌, ◌++◌, length, take, drop, replicate, ◌==◌}
+use Rattle.std.specs.Prelude.{ℕ, ◌+◌, cond, Result, Ok, Err, List, [], ◌∷◌, ◌++◌, length, take, drop, replicate, ◌==◌}
+use Rattle.magnetar_field.specs.declared.refusal.Refusal.{Refusal}
+use Rattle.magnetar_field.specs.Number.{number}
 use Rattle.magnetar_hash.specs.Bytes.{le_bytes}
 use Rattle.magnetar_hash.specs.Sha3.{sha3}
-use Rattle.magnetar_hash.specs.declared.sha3.DigestAnswer.{DigestAnswer}
 
 -- the parts, each as its length in 8 bytes and then its bytes
 unfoldable pub framed : List (List ℕ) → List ℕ
@@ -32,6 +33,16 @@ total_length (n ∷ ns) = n + total_length ns
 -- 32 bytes 0, in the place of a hash that is refused
 abbrev pub no_digest : List ℕ
 no_digest = replicate 32 0
+
+-- the number of the refusal, 0 for none, and the hash, all 0 where the call is refused
+pub record DigestAnswer : Type 0 where
+  pub code : ℕ
+  pub digest : List ℕ
+
+-- what a call hands back, as such an answer
+abbrev pub hash_answer_of : Result (List ℕ) Refusal → DigestAnswer
+hash_answer_of (Ok d) = record { code = 0; digest = d }
+hash_answer_of (Err r) = record { code = number r; digest = no_digest }
 
 -- the answer of a hash of parts: 17 where the lengths don't add up to the bytes
 unfoldable pub domain_answer : List ℕ → List ℕ → DigestAnswer

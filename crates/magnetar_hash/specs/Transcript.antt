@@ -1,13 +1,14 @@
 -- The transcript: a state of 32 bytes and the count of the draws since the last bytes were absorbed.
 -- Source: document 01, "Hash and transcript" and "Who can be turned back" (11, 14, 15 and 17); the Rust's `Transcript`.
 -- Assumes nothing.
-use Rattle.std.specs.Prelude.{ℕ, zero, suc, ◌+◌, ◌*◌, ◌%◌, ◌^◌, Bool, cond, List, [], ◌∷◌, ◌++◌, length, take, drop, ◌==◌, nat_lt}
+use Rattle.std.specs.Prelude.{ℕ, zero, suc, ◌+◌, ◌*◌, ◌%◌, ◌^◌, Bool, cond, Result, Ok, Err, List, [], ◌∷◌, ◌++◌, length, take, drop, ◌==◌, nat_lt}
 use Rattle.magnetar_field.specs.declared.gf128.Gf128.{Gf128}
+use Rattle.magnetar_field.specs.declared.refusal.Refusal.{Refusal}
+use Rattle.magnetar_field.specs.Number.{number as number_of_refusal}
 use Rattle.magnetar_hash.specs.Bytes.{le_bytes, number, word_bytes, ascii}
 use Rattle.magnetar_hash.specs.Parts.{sha3_domain, parts, total_length, no_digest}
 use Rattle.magnetar_hash.specs.declared.transcript.Transcript.{Transcript}
-use Rattle.magnetar_hash.specs.declared.transcript.TranscriptAnswer.{TranscriptAnswer}
-use Rattle.magnetar_hash.specs.declared.transcript.DrawAnswer.{DrawAnswer}
+use Rattle.magnetar_hash.specs.declared.transcript.Drawn.{Drawn}
 
 -- a state, and no draw since
 abbrev pub counter_zero : List ℕ → Transcript
@@ -45,9 +46,35 @@ drawn_words (suc n) t label = (element (drawn t label)).lo ∷ (element (drawn t
 
 -- ---- the answers of the entries, refusals included
 
+-- the number of the refusal, 0 for none; the transcript, as it was where the call is refused (a new one, where none was given, is 32
+-- bytes 0)
+pub record TranscriptAnswer : Type 0 where
+  pub code : ℕ
+  pub transcript : Transcript
+
+-- the same with the element drawn, 0 where the draw is refused
+pub record DrawAnswer : Type 0 where
+  pub code : ℕ
+  pub element : Gf128
+  pub transcript : Transcript
+
 -- the element of a draw that is refused
 abbrev pub no_element : Gf128
 no_element = record { lo = 0; hi = 0 }
+
+-- what a call that was given the transcript t hands back, as such an answer
+abbrev pub answer_of : Transcript → Result Transcript Refusal → TranscriptAnswer
+answer_of t (Ok u) = record { code = 0; transcript = u }
+answer_of t (Err r) = record { code = number_of_refusal r; transcript = t }
+
+-- what a call that was given none hands back
+abbrev pub new_answer_of : Result Transcript Refusal → TranscriptAnswer
+new_answer_of = answer_of (counter_zero no_digest)
+
+-- what a draw from t hands back
+abbrev pub draw_answer_of : Transcript → Result Drawn Refusal → DrawAnswer
+draw_answer_of t (Ok d) = record { code = 0; element = d.element; transcript = d.transcript }
+draw_answer_of t (Err r) = record { code = number_of_refusal r; element = no_element; transcript = t }
 
 -- the answer of a new transcript: 17 where the lengths don't add up to the public bytes
 unfoldable pub new_answer : List ℕ → List ℕ → List ℕ → TranscriptAnswer

@@ -3,9 +3,10 @@ ghost use Rattle.std.specs.Prelude.{◌≡◌, ◌<◌, [], ◌∷◌, length, �
 ghost use Rattle.magnetar_hash.specs.Bytes.{le_bytes, word_bytes};
 ghost use Rattle.magnetar_hash.specs.Sha3 as spec;
 ghost use Rattle.magnetar_hash.specs.Sponge.{Fed, ValidFill};
-ghost use Rattle.magnetar_hash.specs.Parts.{framed, parts, total_length, serialize_parts, domain_answer};
+ghost use Rattle.magnetar_hash.specs.Parts.{framed, parts, total_length, serialize_parts, domain_answer, hash_answer_of};
 
 use crate::sponge;
+use magnetar_field::refusal::{Refusal, require};
 
 // SHA3-256 of bytes.
 pub fn sha3_256(message: &[u8]) -> [u8; 32]
@@ -86,26 +87,12 @@ fn serialize_parts(s: &mut [u64; 25], fill: usize, bytes: &[u8], lens: &[usize])
     feed_parts(s, n, bytes, lens)
 }
 
-// The number of the refusal, 0 for none, and the hash, all 0 where the call is refused.
-#[derive(Clone, Copy)]
-pub struct DigestAnswer {
-    pub code: u32,
-    pub digest: [u8; 32],
-}
-
 // SHA3-256 of parts. Refuses 17.
-pub fn sha3_domain(bytes: &[u8], lens: &[usize]) -> DigestAnswer
-    ensures { result ≡ domain_answer bytes.now lens.now }
+pub fn sha3_domain(bytes: &[u8], lens: &[usize]) -> Result<[u8; 32], Refusal>
+    ensures { hash_answer_of result ≡ domain_answer bytes.now lens.now }
 {
-    if add_up(lens, bytes.len()) {
-        let mut s = [0u64; 25];
-        let n = serialize_parts(&mut s, 0, bytes, lens);
-        let digest = sponge::finish(s, n);
-        DigestAnswer { code: 0, digest }
-    } else {
-        DigestAnswer {
-            code: 17,
-            digest: [0u8; 32],
-        }
-    }
+    require(add_up(lens, bytes.len()), Refusal::PartLengths)?;
+    let mut s = [0u64; 25];
+    let n = serialize_parts(&mut s, 0, bytes, lens);
+    Ok(sponge::finish(s, n))
 }

@@ -1,5 +1,6 @@
 // The transcript that both ends draw their challenges from. It goes by value: a function takes it and hands the next one back.
-ghost use Rattle.std.specs.Prelude.{◌≡◌, ◌*◌, ◌/◌, ◌<◌, [], ◌∷◌, ◌++◌, length, drop, slice_index};
+ghost use Rattle.std.specs.Prelude.{◌≡◌, ◌*◌, ◌/◌, ◌^◌, ◌<◌, [], ◌∷◌, ◌++◌, length, drop, slice_index, nat_lt, if◌then◌else◌, Ok, Err};
+ghost use Rattle.magnetar_field.specs.declared.refusal.Refusal.TheVariants.{Counter};
 ghost use Rattle.magnetar_field.specs.Gf128.{value};
 ghost use Rattle.magnetar_hash.specs.Bytes.{le_bytes, word_bytes};
 ghost use Rattle.magnetar_hash.specs.Parts.{framed, parts, total_length};
@@ -8,6 +9,7 @@ ghost use Rattle.magnetar_hash.specs.Transcript as spec;
 
 use crate::{sha3, sponge};
 use magnetar_field::gf128::Gf128;
+use magnetar_field::refusal::{Refusal, require};
 
 // Document 01's bound for refusal 14.
 const COUNTER_LIMIT: u64 = 0x100000000;
@@ -18,18 +20,9 @@ pub struct Transcript {
     pub squeeze_ctr: u64,
 }
 
-// The number of the refusal, 0 for none; the transcript, as it was where the call is refused (`new`, which was given none, hands
-// back 32 bytes 0).
+// An element, and the transcript after its draw.
 #[derive(Clone, Copy)]
-pub struct TranscriptAnswer {
-    pub code: u32,
-    pub transcript: Transcript,
-}
-
-// The same with the element drawn, 0 where the draw is refused.
-#[derive(Clone, Copy)]
-pub struct DrawAnswer {
-    pub code: u32,
+pub struct Drawn {
     pub element: Gf128,
     pub transcript: Transcript,
 }
@@ -60,41 +53,34 @@ fn fe_byte(x: Gf128, j: usize) -> u8
 }
 
 // A transcript bound to a protocol and its public parts, which are lent as one byte slice and their lengths. Refuses 17.
-pub fn new(protocol: &[u8], public: &[u8], lens: &[usize]) -> TranscriptAnswer
-    ensures { result ≡ spec.new_answer protocol.now public.now lens.now }
+pub fn new(protocol: &[u8], public: &[u8], lens: &[usize]) -> Result<Transcript, Refusal>
+    ensures { spec.new_answer_of result ≡ spec.new_answer protocol.now public.now lens.now }
 {
-    if sha3::add_up(lens, public.len()) {
-        let transcript = begin(protocol, public, lens);
-        TranscriptAnswer {
-            code: 0,
-            transcript,
-        }
-    } else {
-        let transcript = Transcript {
-            state: [0u8; 32],
-            squeeze_ctr: 0,
-        };
-        TranscriptAnswer {
-            code: 17,
-            transcript,
-        }
-    }
-}
-
-fn begin(protocol: &[u8], public: &[u8], lens: &[usize]) -> Transcript
-    requires { total_length lens.now ≡ length public.now }
-    ensures { result ≡ spec.new_transcript protocol.now (parts lens.now public.now) }
-{
+    require(sha3::add_up(lens, public.len()), Refusal::PartLengths)?;
     let mut s = [0u64; 25];
     let a = sponge::feed_word(&mut s, 0, lens.len() as u64 + 2);
     let b = sha3::feed_part(&mut s, a, b"magnetar/transcript/v1");
     let c = sha3::feed_part(&mut s, b, protocol);
     let d = sha3::feed_parts(&mut s, c, public, lens);
-    let state = sponge::finish(s, d);
+    Ok(undrawn(sponge::finish(s, d)))
+}
+
+// A transcript with this state, from which nothing has been drawn.
+fn undrawn(state: [u8; 32]) -> Transcript
+    ensures { result ≡ spec.counter_zero state }
+{
     Transcript {
         state,
         squeeze_ctr: 0,
     }
+}
+
+// The transcript, unless its counter is too large. Refuses 14.
+fn on_time(t: Transcript) -> Result<Transcript, Refusal>
+    ensures { result ≡ (if nat_lt t.squeeze_ctr (2 ^ 32) then Ok t else Err Counter) }
+{
+    require(t.squeeze_ctr < COUNTER_LIMIT, Refusal::Counter)?;
+    Ok(t)
 }
 
 // The first three of the four parts that an absorption and a draw hash, after the count of the parts.
@@ -109,42 +95,14 @@ fn feed_head(s: &mut [u64; 25], t: Transcript, tag: &[u8], label: &[u8]) -> usiz
     sha3::feed_part(s, c, label)
 }
 
-// The transcript after an absorption: a new state, and no draw since.
-fn renewed(t: Transcript, state: [u8; 32]) -> Transcript
-    ensures { result ≡ spec.counter_zero state }
-{
-    let mut u = t;
-    u.state = state;
-    u.squeeze_ctr = 0;
-    u
-}
-
-// The answer of an absorption that leads from one transcript to the next. Refuses 14.
-fn answered(old: Transcript, next: Transcript) -> TranscriptAnswer
-    ensures { result ≡ spec.unless_late old next }
-{
-    if old.squeeze_ctr < COUNTER_LIMIT {
-        TranscriptAnswer {
-            code: 0,
-            transcript: next,
-        }
-    } else {
-        TranscriptAnswer {
-            code: 14,
-            transcript: old,
-        }
-    }
-}
-
 // Bytes are absorbed under a label. Refuses 14.
-pub fn absorb_bytes(t: Transcript, label: &[u8], bytes: &[u8]) -> TranscriptAnswer
-    ensures { result ≡ spec.absorb_answer t label.now bytes.now }
+pub fn absorb_bytes(t: Transcript, label: &[u8], bytes: &[u8]) -> Result<Transcript, Refusal>
+    ensures { spec.answer_of t result ≡ spec.absorb_answer t label.now bytes.now }
 {
     let mut s = [0u64; 25];
-    let a = feed_head(&mut s, t, b"absorb", label);
+    let a = feed_head(&mut s, on_time(t)?, b"absorb", label);
     let b = sha3::feed_part(&mut s, a, bytes);
-    let state = sponge::finish(s, b);
-    answered(t, renewed(t, state))
+    Ok(undrawn(sponge::finish(s, b)))
 }
 
 // The bytes of words are absorbed under a label. A run refuses 14 where it starts, and its draws may pass 2^32: so the layers above
@@ -155,35 +113,27 @@ pub fn absorb_words(t: Transcript, label: &[u8], words: &[u64]) -> Transcript
     let mut s = [0u64; 25];
     let a = feed_head(&mut s, t, b"absorb", label);
     let b = sha3::feed_words_part(&mut s, a, words);
-    let state = sponge::finish(s, b);
-    renewed(t, state)
+    undrawn(sponge::finish(s, b))
 }
 
 // Elements are absorbed under a label. Refuses 11, then 14.
-pub fn absorb_field(t: Transcript, label: &[u8], words: &[u64]) -> TranscriptAnswer
-    ensures { result ≡ spec.field_answer t label.now words.now }
+pub fn absorb_field(t: Transcript, label: &[u8], words: &[u64]) -> Result<Transcript, Refusal>
+    ensures { spec.answer_of t result ≡ spec.field_answer t label.now words.now }
 {
-    if words.len() % 2 == 0 {
-        answered(t, absorb_words(t, label, words))
-    } else {
-        TranscriptAnswer {
-            code: 11,
-            transcript: t,
-        }
-    }
+    require(words.len() % 2 == 0, Refusal::Length)?;
+    Ok(absorb_words(on_time(t)?, label, words))
 }
 
 // A word is absorbed under a label. Refuses 14.
-pub fn absorb_u64(t: Transcript, label: &[u8], v: u64) -> TranscriptAnswer
-    ensures { result ≡ spec.absorb_answer t label.now (le_bytes 8 v) }
+pub fn absorb_u64(t: Transcript, label: &[u8], v: u64) -> Result<Transcript, Refusal>
+    ensures { spec.answer_of t result ≡ spec.absorb_answer t label.now (le_bytes 8 v) }
 {
-    let w = [v];
-    answered(t, absorb_words(t, label, &w))
+    absorb_bytes(t, label, &v.to_le_bytes())
 }
 
 // A hash is absorbed under a label. Refuses 14.
-pub fn absorb_digest(t: Transcript, label: &[u8], d: &[u8; 32]) -> TranscriptAnswer
-    ensures { result ≡ spec.absorb_answer t label.now d.now }
+pub fn absorb_digest(t: Transcript, label: &[u8], d: &[u8; 32]) -> Result<Transcript, Refusal>
+    ensures { spec.answer_of t result ≡ spec.absorb_answer t label.now d.now }
 {
     absorb_bytes(t, label, d)
 }
@@ -215,24 +165,14 @@ pub fn element(t: Transcript) -> Gf128
 }
 
 // An element is drawn under a label. Refuses 14.
-pub fn challenge_field(t: Transcript, label: &[u8]) -> DrawAnswer
-    ensures { result ≡ spec.draw_answer t label.now }
+pub fn challenge_field(t: Transcript, label: &[u8]) -> Result<Drawn, Refusal>
+    ensures { spec.draw_answer_of t result ≡ spec.draw_answer t label.now }
 {
-    if t.squeeze_ctr < COUNTER_LIMIT {
-        let transcript = draw(t, label);
-        let x = element(transcript);
-        DrawAnswer {
-            code: 0,
-            element: x,
-            transcript,
-        }
-    } else {
-        DrawAnswer {
-            code: 14,
-            element: Gf128 { lo: 0, hi: 0 },
-            transcript: t,
-        }
-    }
+    let transcript = draw(on_time(t)?, label);
+    Ok(Drawn {
+        element: element(transcript),
+        transcript,
+    })
 }
 
 // As many elements are drawn under a label as `out` has room for, without the check of 14.
@@ -261,29 +201,13 @@ pub fn challenge_field_vec(
     label: &[u8],
     n: usize,
     out: &mut [u64],
-) -> TranscriptAnswer
-    ensures { (result ≡ spec.draws_answer t label.now n (length out.old))
+) -> Result<Transcript, Refusal>
+    ensures { (spec.answer_of t result ≡ spec.draws_answer t label.now n (length out.old))
         × (out.new ≡ spec.draws_out t label.now n out.old) }
 {
-    if t.squeeze_ctr < COUNTER_LIMIT {
-        if out.len() / 2 < n {
-            TranscriptAnswer {
-                code: 15,
-                transcript: t,
-            }
-        } else {
-            let transcript = draw_vec(t, label, &mut out[..2 * n]);
-            TranscriptAnswer {
-                code: 0,
-                transcript,
-            }
-        }
-    } else {
-        TranscriptAnswer {
-            code: 14,
-            transcript: t,
-        }
-    }
+    require(t.squeeze_ctr < COUNTER_LIMIT, Refusal::Counter)?;
+    require(n <= out.len() / 2, Refusal::Room)?;
+    Ok(draw_vec(t, label, &mut out[..2 * n]))
 }
 
 // The state.

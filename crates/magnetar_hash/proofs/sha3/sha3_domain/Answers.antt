@@ -1,21 +1,27 @@
 use Rattle.std.proofs.Common.{sym, ◌∙◌, rules, eqb-true}
 use Rattle.magnetar_hash.specs.Parts.{domain_answer, parts}
 use Rattle.magnetar_hash.proofs.Parts.{domain-of}
+use Rattle.magnetar_hash.proofs.Tests.{met, unmet}
 use Rattle.magnetar_hash.proofs.sha3.sha3_domain.Goals as goal
 
 pub serialize_parts-n-requires : goal.serialize_parts-n-requires
-serialize_parts-n-requires c = (search rules, eqb-true _ _ (sym c.add_up.ensures ∙ c.if-add_up.true))
+serialize_parts-n-requires c =
+    let m = met _ _ _ _ _ c.require.ensures c.in_ok-require.was in
+    (search rules, eqb-true _ _ (sym c.add_up.ensures ∙ m.0))
 
-pub returns-then-add_up : goal.returns-then-add_up
+pub returns-in_err-require : goal.returns-in_err-require
 unfolding domain_answer
-returns-then-add_up c =
+returns-in_err-require c =
+    let u = unmet _ _ _ _ _ _ c.require.ensures c.in_err-require.was c.from_residual.ensures.1 in
+    rw (u.1, sym c.add_up.ensures ∙ u.0)
+
+pub returns : goal.returns
+unfolding domain_answer
+returns c =
     let a = c.args in
+    let m = met _ _ _ _ _ c.require.ensures c.in_ok-require.was in
     rw (
-      sym c.add_up.ensures ∙ c.if-add_up.true,
-      c.finish-digest.ensures,
+      sym c.add_up.ensures ∙ m.0,
+      c.finish.ensures,
       domain-of (parts a.lens.now a.bytes.now) c.serialize_parts-n.ensures,
     )
-
-pub returns-else-add_up : goal.returns-else-add_up
-unfolding domain_answer
-returns-else-add_up c = rw (sym c.add_up.ensures ∙ c.if-add_up.false)

@@ -8,7 +8,7 @@ unfolding absorbed ascii
 returns c =
     let a = c.args in
     rw (
-      c.renewed.ensures,
-      c.finish-state.ensures,
+      c.undrawn.ensures,
+      c.finish.ensures,
       four-parts a.t.state (ascii "absorb") a.label.now (word_bytes a.words.now) c.feed_head-a.ensures c.feed_words_part-b.ensures,
     )

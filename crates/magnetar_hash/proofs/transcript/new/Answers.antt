@@ -1,14 +1,25 @@
-use Rattle.std.proofs.Common.{sym, ◌∙◌, eqb-true}
-use Rattle.magnetar_hash.specs.Transcript.{new_answer}
+use Rattle.std.proofs.Common.{◌≡◌, ◌+◌, [], ◌∷◌, length, sym, ◌∙◌, arith}
+use Rattle.magnetar_hash.specs.Bytes.{ascii}
+use Rattle.magnetar_hash.specs.Parts.{parts}
+use Rattle.magnetar_hash.specs.Transcript.{new_transcript, new_answer}
+use Rattle.magnetar_hash.proofs.Parts.{parts_join, serialized, domain-of, length-parts}
+use Rattle.magnetar_hash.proofs.Tests.{met, unmet}
 use Rattle.magnetar_hash.proofs.transcript.new.Goals as goal
 
-pub begin-transcript-requires : goal.begin-transcript-requires
-begin-transcript-requires c = eqb-true _ _ (sym c.add_up.ensures ∙ c.if-add_up.true)
-
-pub returns-then-add_up : goal.returns-then-add_up
+pub returns-in_err-require : goal.returns-in_err-require
 unfolding new_answer
-returns-then-add_up c = rw (sym c.add_up.ensures ∙ c.if-add_up.true, c.begin-transcript.ensures)
+returns-in_err-require c =
+    let u = unmet _ _ _ _ _ _ c.require.ensures c.in_err-require.was c.from_residual.ensures.1 in
+    rw (u.1, sym c.add_up.ensures ∙ u.0)
 
-pub returns-else-add_up : goal.returns-else-add_up
-unfolding new_answer
-returns-else-add_up c = rw (sym c.add_up.ensures ∙ c.if-add_up.false)
+pub returns : goal.returns
+unfolding new_answer new_transcript ascii
+returns c =
+    let a = c.args in
+    let d = ascii "magnetar/transcript/v1" in
+    let ps = parts a.lens.now a.public.now in
+    let e : length a.lens.now + 2 ≡ length (d ∷ a.protocol.now ∷ ps) = omega (arith, length-parts a.lens.now a.public.now) in
+    let f = parts_join (a.protocol.now ∷ []) ps c.feed_part-c.ensures c.feed_parts-d.ensures in
+    let g = serialized (d ∷ a.protocol.now ∷ ps) e c.feed_word-a.ensures (parts_join (d ∷ []) (a.protocol.now ∷ ps) c.feed_part-b.ensures f) in
+    let m = met _ _ _ _ _ c.require.ensures c.in_ok-require.was in
+    rw (sym c.add_up.ensures ∙ m.0, c.undrawn.ensures, c.finish.ensures, domain-of (d ∷ a.protocol.now ∷ ps) g)
