@@ -1,4 +1,4 @@
--- The loop that tests each member of a list, the first one first.
+-- The test of each member of a list: as std has it, in a loop, and what a passed list says.
 -- Assumes nothing.
 use mathlib.Core.Path.{◌≡◌, refl, ◌∙◌}
 use mathlib.Core.Bool.{Bool, true, false, ◌&&◌, false≢true}
@@ -9,7 +9,14 @@ use native.Mathlib.Numerals.{add-one}
 use native.Mathlib.Omega.{arith}
 use lib.ListN.{length, get_or, drop, drop_of_length-le}
 use lib.Seq.{drop-cons}
+use Rattle.std.specs.List.{list_all}
 use Rattle.magnetar_layout.specs.Every.{every}
+
+-- std's word for it
+pub every-list_all : {A : Type 0} (p : A → Bool) (s : List A) → every p s ≡ list_all p s
+unfolding every
+every-list_all p [] = refl
+every-list_all p (x ∷ s) = rw (every-list_all p s)
 
 -- what is left of the list decides
 abbrev pub Left : {A : Type 0} → (A → Bool) → List A → ℕ → Type 0

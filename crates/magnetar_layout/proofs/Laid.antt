@@ -9,7 +9,9 @@ use native.Mathlib.Numerals.{add-one}
 use native.Mathlib.Omega.{arith}
 use borrow.Author.Tests.{ltb-true, leb-true, leb-false, le-leb, lt-leb, ltb-false, eqb-true, eqb-false, eq-eqb, ne_eqb, not-false}
 use lib.Dec.{eqb, ltb, leb}
-use lib.ListN.{length, get_or, drop, drop_of_length-le}
+use lib.ListN.{length, get_or, take, drop, drop_of_length-le}
+use Rattle.std.proofs.lemmas.List.{get_or-take}
+use Rattle.std.proofs.Common.{length-take}
 use lib.Seq.{drop-cons}
 use lib.Pow.{pow_mono}
 use Rattle.magnetar_field.specs.Sizes.{log₂}
@@ -158,6 +160,12 @@ module _ (ns : List ℕ) (c i : ℕ) (l : Laid ns c i) (h : i < length ns) where
       head_of (suc i) [] e = absurd (let z : ◌≡◌ {A = ℕ} 0 1 = cc in omega arith)
       head_of (suc i) (y ∷ s) e = head_of i s e
 
+-- the first k lengths
+pub taken : (ns : List ℕ) (k i : ℕ) → i < length (take k ns) → (i < length ns) × (get_or (take k ns) i 0 ≡ get_or ns i 0)
+taken ns k i h =
+    let l : (i < k) × (i < length ns) = (omega (arith, length-take {A = ℕ}), omega (arith, length-take {A = ℕ})) in
+    (l.1, get_or-take k ns i 0 l.0)
+
 offsets-from-length : (c : ℕ) (ns : List ℕ) → length (offsets_from c ns) ≡ length ns
 unfolding offsets_from
 offsets-from-length c [] = refl
@@ -200,6 +208,10 @@ sound w ns e =
       lengths = not-false _ k.1.0;
       ends = ltb-false _ _ k.1.1.0;
     }
+
+-- the same the other way round, as an answer's clause says it
+pub fits : (w : ℕ) (ns : List ℕ) → 0 ≡ layout_refusal w ns → LayoutFits w ns
+fits w ns e = sound w ns (sym e)
 
 -- ---- the layout over half of m columns
 -- a size that is a power of two of at least two is even

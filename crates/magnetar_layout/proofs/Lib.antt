@@ -7,3 +7,4 @@ pub mod Places
 pub mod Outside
 pub mod Readings
 pub mod Room
+pub mod Passing

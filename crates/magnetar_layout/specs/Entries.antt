@@ -1,11 +1,11 @@
 -- The outcomes of the entries of a layout: which refusal applies, in rising order, what is read and what is written.
 -- Source: document 01, "Matrices and layout" and "Who can be turned back"; the Rust's `SegmentLayout`.
 -- Assumes nothing.
-use Rattle.std.specs.Prelude.{cond, List, [], ◌++◌, ℕ, ◌*◌, length, take, drop, get_or, ltb}
+use Rattle.std.specs.Prelude.{cond, List, [], ◌++◌, ℕ, ◌*◌, length, take, drop, get_or, ltb, Option, Some, None, Result, Ok, Err}
+use Rattle.magnetar_field.specs.declared.refusal.Refusal.{Refusal}
+use Rattle.magnetar_field.specs.Number.{number_of}
 use Rattle.magnetar_field.specs.Refusal.{unless_refused}
 use Rattle.magnetar_field.specs.Sizes.{log₂}
-use Rattle.magnetar_layout.specs.declared.layout.Reading.{Reading}
-use Rattle.magnetar_layout.specs.declared.layout.Reading.TheVariants.{Number, NoSegment, Refused}
 use Rattle.magnetar_layout.specs.Layout.{offsets, offset}
 use Rattle.magnetar_layout.specs.Tests.{first_refusal, column_tests, layout_tests, length_test, room_test}
 
@@ -28,11 +28,16 @@ pub data Read : Type 0 where
   no_segment : Read
   refusal : ℕ → Read
 
--- the reading that a value of the code's enum is
-abbrev pub read : Reading → Read
-read (Number n) = number n
-read NoSegment = no_segment
-read (Refused n) = refusal n
+-- the reading that an answer of the code is
+abbrev pub read : Result (Option ℕ) Refusal → Read
+read (Ok (Some n)) = number n
+read (Ok None) = no_segment
+read (Err r) = refusal (number_of {A = Option ℕ} (Err r))
+
+-- the same of an answer that is a number
+abbrev pub read_vars : Result ℕ Refusal → Read
+read_vars (Ok n) = number n
+read_vars (Err r) = refusal (number_of {A = ℕ} (Err r))
 
 -- the number v of segment i, unless the layout is refused or has no such segment
 abbrev pub read_of : ℕ → List ℕ → ℕ → ℕ → Read

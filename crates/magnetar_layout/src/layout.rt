@@ -1,11 +1,14 @@
 // The layout of the segments over the witness columns: each segment starts at the next multiple of its length. A layout is
 // its w witness columns and the lengths of its segments, in their order.
 ghost use Rattle.std.specs.Prelude.{◌≡◌, true, ◌++◌, ◌+◌, ◌*◌, ◌<◌, ◌≤◌, ltb, length, drop};
+ghost use Rattle.magnetar_field.specs.Number.{number_of};
 ghost use Rattle.magnetar_layout.specs.Every.{every};
 ghost use Rattle.magnetar_layout.specs.Layout.{next_multiple, is_length, layout_end, offsets, offset, local_vars, suffix_bits, suffix, LayoutFits};
-ghost use Rattle.magnetar_layout.specs.Entries.{layout_refusal, build_refusal, build_out, read, read_of, vars_of, segment_part};
+ghost use Rattle.magnetar_layout.specs.Entries.{layout_refusal, build_refusal, build_out, read, read_of, read_vars, vars_of, segment_part};
 
+use crate::limits::{MOST_SEGMENTS, MOST_WITNESS};
 use crate::tests;
+use magnetar_field::refusal::{Refusal, require};
 use magnetar_field::sizes;
 
 // The least multiple of n that is not below c.
@@ -23,29 +26,24 @@ fn ends_past(w: usize, lens: &[usize]) -> bool
     ensures { result ≡ ltb w (layout_end lens.now) }
 {
     let mut c = 0;
-    let mut i = 0;
-    while i < lens.len() {
-        let n = lens[i];
-        c = next_multiple(c, n) + n;
+    for n in lens {
+        c = next_multiple(c, *n) + *n;
         if c > w {
             return true;
         }
-        i += 1;
     }
     false
 }
 
 // 1, 8, 9 and 10 of a layout.
-pub fn refusal(w: usize, lens: &[usize]) -> u32
-    ensures { result ≡ layout_refusal w lens.now }
+#[tactic(auto, using(crate::proofs::Passing::passing), unfolding(crate::specs::Entries::layout_refusal, crate::specs::Tests::or_refuse))]
+pub fn refusal(w: usize, lens: &[usize]) -> Result<(), Refusal>
+    ensures { number_of result ≡ layout_refusal w lens.now }
 {
-    let z = tests::refuse(0, 1, !tests::is_size(1, 32768, w));
-    let z = tests::refuse(z, 8, !tests::all_lengths(w, lens));
-    if z != 0 {
-        return z;
-    }
-    let z = tests::refuse(z, 9, ends_past(w, lens));
-    tests::refuse(z, 10, lens.len() > 64)
+    require(tests::is_size(1, MOST_WITNESS, w), Refusal::Size)?;
+    require(tests::all_lengths(w, lens), Refusal::SegmentLength)?;
+    require(!ends_past(w, lens), Refusal::LayoutEnd)?;
+    require(lens.len() <= MOST_SEGMENTS, Refusal::SegmentCount)
 }
 
 // The offset of segment k.
@@ -55,11 +53,8 @@ fn place(w: usize, lens: &[usize], k: usize) -> usize
     ensures { result ≡ offset lens.now k }
 {
     let mut c = 0;
-    let mut i = 0;
-    while i < k {
-        let n = lens[i];
-        c = next_multiple(c, n) + n;
-        i += 1;
+    for n in &lens[..k] {
+        c = next_multiple(c, *n) + *n;
     }
     next_multiple(c, lens[k])
 }
@@ -71,103 +66,81 @@ fn fill(w: usize, lens: &[usize], out: &mut [usize])
     ensures { out.new ≡ offsets lens.now ++ drop (length lens.now) out.old }
 {
     let mut c = 0;
-    let mut i = 0;
-    while i < lens.len() {
-        let n = lens[i];
-        let o = next_multiple(c, n);
+    for (i, n) in lens.iter().enumerate() {
+        let o = next_multiple(c, *n);
         out[i] = o;
-        c = o + n;
-        i += 1;
+        c = o + *n;
     }
 }
 
 // The offsets of the segments. 1: no such columns; 8: no such length; 9: the segments end past the columns; 10: too many
 // segments; 15: too little room.
-pub fn build(w: usize, lens: &[usize], offsets: &mut [usize]) -> u32
-    ensures answer { result ≡ build_refusal w lens.now offsets.old }
+#[tactic(auto, using(crate::proofs::Readings::building), unfolding(crate::specs::Tests::or_refuse))]
+pub fn build(w: usize, lens: &[usize], offsets: &mut [usize]) -> Result<(), Refusal>
+    ensures answer { number_of result ≡ build_refusal w lens.now offsets.old }
     ensures written { offsets.new ≡ build_out w lens.now offsets.old }
 {
-    let z = refusal(w, lens);
-    let z = tests::refuse(z, 15, offsets.len() < lens.len());
-    if z != 0 {
-        return z;
-    }
+    refusal(w, lens)?;
+    require(lens.len() <= offsets.len(), Refusal::Room)?;
     fill(w, lens, offsets);
-    0
+    Ok(())
 }
 
-// What is read of a layout: a number, no segment of that number, or a refusal.
-#[derive(Clone, Copy)]
-pub enum Reading {
-    Number(usize),
-    NoSegment,
-    Refused(u32),
-}
-
-// The column where segment i starts.
-pub fn offset(w: usize, lens: &[usize], i: usize) -> Reading
+// The column where segment i starts; nothing where there is no segment i.
+pub fn offset(w: usize, lens: &[usize], i: usize) -> Result<Option<usize>, Refusal>
     ensures { read result ≡ read_of w lens.now i (offset lens.now i) }
 {
-    let z = refusal(w, lens);
-    if z != 0 {
-        return Reading::Refused(z);
-    }
+    refusal(w, lens)?;
     if i < lens.len() {
-        return Reading::Number(place(w, lens, i));
+        Ok(Some(place(w, lens, i)))
+    } else {
+        Ok(None)
     }
-    Reading::NoSegment
 }
 
 // How many variables number the columns of segment i.
-pub fn local_vars(w: usize, lens: &[usize], i: usize) -> Reading
+pub fn local_vars(w: usize, lens: &[usize], i: usize) -> Result<Option<usize>, Refusal>
     ensures { read result ≡ read_of w lens.now i (local_vars lens.now i) }
 {
-    let z = refusal(w, lens);
-    if z != 0 {
-        return Reading::Refused(z);
-    }
+    refusal(w, lens)?;
     if i < lens.len() {
-        return Reading::Number(sizes::log2(lens[i]));
+        Ok(Some(sizes::log2(lens[i])))
+    } else {
+        Ok(None)
     }
-    Reading::NoSegment
 }
 
 // How many of the witness variables are left above those of segment i.
-pub fn suffix_bits(w: usize, lens: &[usize], i: usize) -> Reading
+pub fn suffix_bits(w: usize, lens: &[usize], i: usize) -> Result<Option<usize>, Refusal>
     ensures { read result ≡ read_of w lens.now i (suffix_bits w lens.now i) }
 {
-    let z = refusal(w, lens);
-    if z != 0 {
-        return Reading::Refused(z);
-    }
+    refusal(w, lens)?;
     if i < lens.len() {
-        return Reading::Number(sizes::log2(w) - sizes::log2(lens[i]));
+        Ok(Some(sizes::log2(w) - sizes::log2(lens[i])))
+    } else {
+        Ok(None)
     }
-    Reading::NoSegment
 }
 
 // The offset of segment i divided by its length: the value of a column's bits above those of the segment.
-pub fn b_i(w: usize, lens: &[usize], i: usize) -> Reading
+pub fn b_i(w: usize, lens: &[usize], i: usize) -> Result<Option<usize>, Refusal>
     ensures { read result ≡ read_of w lens.now i (suffix lens.now i) }
 {
-    let z = refusal(w, lens);
-    if z != 0 {
-        return Reading::Refused(z);
-    }
+    refusal(w, lens)?;
     if i < lens.len() {
-        return Reading::Number(place(w, lens, i) / lens[i]);
+        Ok(Some(place(w, lens, i) / lens[i]))
+    } else {
+        Ok(None)
     }
-    Reading::NoSegment
 }
 
 // How many variables number the witness columns.
-pub fn witness_vars(w: usize) -> Reading
-    ensures { read result ≡ vars_of w }
+#[tactic(auto, using(crate::proofs::Passing::passing), unfolding(crate::specs::Entries::vars_refusal, crate::specs::Tests::or_refuse))]
+pub fn witness_vars(w: usize) -> Result<usize, Refusal>
+    ensures { read_vars result ≡ vars_of w }
 {
-    if tests::is_size(1, 32768, w) {
-        return Reading::Number(sizes::log2(w));
-    }
-    Reading::Refused(1)
+    require(tests::is_size(1, MOST_WITNESS, w), Refusal::Size)?;
+    Ok(sizes::log2(w))
 }
 
 // The part of the folded vector that segment i has; an empty part where the layout is refused, the vector has not two
@@ -175,17 +148,9 @@ pub fn witness_vars(w: usize) -> Reading
 pub fn segment<'a>(folded: &'a [u64], w: usize, lens: &[usize], i: usize) -> &'a [u64]
     ensures { result.now ≡ segment_part w lens.now i folded.now }
 {
-    let z = refusal(w, lens);
-    if z != 0 {
+    if refusal(w, lens).is_err() || folded.len() != 2 * w || i >= lens.len() {
         return &folded[..0];
     }
-    if folded.len() != 2 * w {
-        return &folded[..0];
-    }
-    if i < lens.len() {
-        let a = 2 * place(w, lens, i);
-        let e = a + 2 * lens[i];
-        return &folded[a..e];
-    }
-    &folded[..0]
+    let a = 2 * place(w, lens, i);
+    &folded[a..a + 2 * lens[i]]
 }

@@ -1,5 +1,6 @@
-// The tests of sizes and entries as numbered refusals, and the layouts of the segments over the witness columns.
+// The limits, the tests of sizes and lengths, and the layouts of the segments over the witness columns.
 #![tactic(auto)]
 
 pub mod layout;
+pub mod limits;
 pub mod tests;

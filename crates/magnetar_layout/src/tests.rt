@@ -20,41 +20,24 @@ pub fn refuse(z: u32, n: u32, bad: bool) -> u32
 }
 
 // n is a power of two from least to most.
+#[tactic(auto, using(std::proofs::lemmas::Bool::Decides::nat_tests), unfolding(crate::specs::Tests::is_size))]
 pub fn is_size(least: usize, most: usize, n: usize) -> bool
     ensures { result ≡ is_size least most n }
 {
-    if n < least {
-        return false;
-    }
-    if n > most {
-        return false;
-    }
-    sizes::is_power_of_two(n)
+    least <= n && n <= most && sizes::is_power_of_two(n)
 }
 
 // A segment of w columns may have the length n.
+#[tactic(auto, using(std::proofs::lemmas::Bool::Decides::nat_tests), unfolding(crate::specs::Layout::is_length))]
 fn is_length(w: usize, n: usize) -> bool
     ensures { result ≡ is_length w n }
 {
-    if n == 0 {
-        return false;
-    }
-    if n > w {
-        return false;
-    }
-    sizes::is_power_of_two(n)
+    0 < n && n <= w && sizes::is_power_of_two(n)
 }
 
 // 8: each segment may have its length.
 pub(crate) fn all_lengths(w: usize, lens: &[usize]) -> bool
     ensures { result ≡ every (is_length w) lens.now }
 {
-    let mut i = 0;
-    while i < lens.len() {
-        if !is_length(w, lens[i]) {
-            return false;
-        }
-        i += 1;
-    }
-    true
+    lens.iter().all(|n| is_length(w, *n))
 }

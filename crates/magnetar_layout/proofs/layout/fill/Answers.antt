@@ -9,7 +9,7 @@ use borrow.Author.Rules.{rules}
 use Rattle.magnetar_layout.proofs.layout.fill.Goals as goal
 
 pub loop-i-init : goal.loop-i-init
-loop-i-init c = (search rules, search rules, refl, laid-start _, refl)
+loop-i-init c = (search rules, laid-start _, refl)
 
 pub next_multiple-o-requires : goal.next_multiple-o-requires
 next_multiple-o-requires c =
@@ -28,13 +28,11 @@ pub loop-i-preserved : goal.loop-i-preserved
 loop-i-preserved c =
     let l = c.loop-i in
     let s = c in
-    let next = rw (← c.next_multiple-o.ensures) at (laid_more _ _ _ l.invariant.3 (omega arith)) in
-    let o = c.next_multiple-o.ensures ∙ laid-offset _ _ _ l.invariant.3 (omega arith) in (
-      omega arith,
+    let next = rw (← c.next_multiple-o.ensures) at (laid_more _ _ _ l.invariant.1 (omega arith)) in
+    let o = c.next_multiple-o.ensures ∙ laid-offset _ _ _ l.invariant.1 (omega arith) in (
       omega (arith, laid-within _ _ _ _ next s.requires.layout_fits.lengths),
-      search rules,
       next,
-      rw o (copy_more l.i _ _ _ l.invariant.4 (rw offsets-length (omega arith)) (omega arith)),
+      rw o (copy_more l.i _ _ _ l.invariant.2 (rw offsets-length (omega arith)) (omega arith)),
     )
 
 pub returns : goal.returns
@@ -42,4 +40,4 @@ returns c =
     let l = c.loop-i in
     let x = c.args in
     let e : l.i ≡ length x.lens.now = omega arith in
-    l.invariant.4 ∙ rw (take_all l.i (offsets x.lens.now) (rw offsets-length (omega arith)), e)
+    l.invariant.2 ∙ rw (take_all l.i (offsets x.lens.now) (rw offsets-length (omega arith)), e)

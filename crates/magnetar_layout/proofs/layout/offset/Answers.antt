@@ -1,20 +1,5 @@
-use Rattle.magnetar_layout.proofs.Laid.{sound}
-use mathlib.Core.Path.{sym, ◌∙◌}
-use native.Mathlib.Omega.{arith}
-use Rattle.magnetar_layout.proofs.Readings.{read-refused, read_some, read_none}
+use Rattle.magnetar_layout.proofs.Laid.{fits}
 use Rattle.magnetar_layout.proofs.layout.offset.Goals as goal
 
-pub returns-then-z-ne0 : goal.returns-then-z-ne0
-returns-then-z-ne0 c = read-refused _ _ _ _ _ c.refusal-z.ensures c.if-z-ne0.true
-
-pub place-requires : goal.place-requires
-place-requires c = record {
-  layout_fits = sound _ _ (sym c.refusal-z.ensures ∙ c.if-z-ne0.false);
-  k_in_bounds = c.if-i-lens.true;
-}
-
-pub returns-then-i-lens : goal.returns-then-i-lens
-returns-then-i-lens c = read_some _ _ _ _ _ c.refusal-z.ensures c.if-z-ne0.false _ c.if-i-lens.true c.place.ensures
-
-pub returns : goal.returns
-returns c = read_none _ _ _ _ _ c.refusal-z.ensures c.if-z-ne0.false (omega arith)
+pub place-requires-clause-layout_fits : goal.place-requires-clause-layout_fits
+place-requires-clause-layout_fits c = fits _ _ c.in_ok-refusal.ensures
