@@ -7,12 +7,15 @@ use Prim.Native.Nat.{ℕ, zero, suc}
 use native.Mathlib.Omega.{arith}
 use borrow.Author.Tests.{ne_eqb, ltb-true}
 use lib.Dec.{ltb}
+use Rattle.std.specs.Prelude.{Ok, Err}
 use Rattle.magnetar_field.specs.Refusal.{unless_refused}
 use Rattle.magnetar_field.specs.declared.gf128.Gf128.{Gf128}
-use Rattle.magnetar_field.specs.declared.gf128.Evaluated.TheVariants.{Value, Refused}
+use Rattle.magnetar_field.specs.declared.refusal.Refusal.{Refusal}
+use Rattle.magnetar_field.specs.Number.{number}
 use Rattle.magnetar_field.specs.Gf128.{value}
 use Rattle.magnetar_multilinear.specs.Entries.{answer, answered}
 use Rattle.magnetar_layout.proofs.EveryLaws.{both}
+use Rattle.magnetar_layout.proofs.Refused.{number-positive}
 use Rattle.magnetar_layout.specs.Tests.{Tests, or_refuse, first_refusal}
 
 pub note-kept : (n : ℕ) (b : Bool) (z : ℕ) → (z ≡ 0 → ⊥) → or_refuse n b z ≡ z
@@ -72,10 +75,10 @@ module _ {A : Type 0} {n m : ℕ} (new old : A) (e : n ≡ m) where
   done h = rw (← e, h)
 
 -- an answer that is an element
-pub refused : {n m : ℕ} (v : ℕ) → n ≡ m → (n ≡ 0 → ⊥) → answer (Refused n) ≡ answered m v
-refused {n} v e h = rw (← e, ne_eqb n 0 h)
+pub refused : {m : ℕ} (r : Refusal) (v : ℕ) → number r ≡ m → answer (Err r) ≡ answered m v
+refused r v e = let p = number-positive r in rw (← e, ne_eqb (number r) 0 (λ h. omega arith))
 
-pub found : {m : ℕ} (r : Gf128) (v : ℕ) → 0 ≡ m → value r ≡ v → answer (Value r) ≡ answered m v
+pub found : {m : ℕ} (r : Gf128) (v : ℕ) → 0 ≡ m → value r ≡ v → answer (Ok r) ≡ answered m v
 found r v e f = rw (← e, f)
 
 -- ---- groups of tests: where all are passed, so are the first and the last of them

@@ -1,4 +1,5 @@
 pub mod Edges
+pub mod Refused
 pub mod FirstRefusal
 pub mod EveryLaws
 pub mod SizeLaws

@@ -18,7 +18,7 @@ use Rattle.magnetar_field.proofs.Handed.{handed}
 use Rattle.magnetar_layout.specs.Layout.{offset}
 use Rattle.magnetar_layout.specs.Tests.{or_refuse}
 use Rattle.magnetar_layout.proofs.FirstRefusal.{note-kept}
-use Rattle.magnetar_layout.proofs.Passing.{number-positive}
+use Rattle.magnetar_layout.proofs.Refused.{number-positive}
 use Rattle.magnetar_layout.specs.Entries.{layout_refusal, read, read_of, segment_refusal, segment_part, build_refusal}
 
 module _ (w : ℕ) (ns : List ℕ) (i v : ℕ) where

@@ -1,6 +1,6 @@
-use Rattle.std.proofs.Common.{◌≡◌, ℕ, ◌+◌, ◌-◌, ◌*◌, sym, ◌∙◌, get_or, arith}
+use Rattle.std.proofs.Common.{◌≡◌, ◌+◌, ◌-◌, ◌*◌, sym, ◌∙◌, get_or, arith}
 use Rattle.magnetar_layout.proofs.Laid.{fits, offset-within}
-use Rattle.magnetar_layout.proofs.Passing.{clear, refused}
+use Rattle.magnetar_layout.proofs.Refused.{clear, failed}
 use Rattle.magnetar_layout.proofs.Readings.{part-refused, part-other, part-missing, part-is}
 use Rattle.magnetar_layout.proofs.layout.segment.Goals.{then-is_err-via-then-is_err, then-is_err-via-else-is_err+then-folded-w, then-is_err-via-else-is_err+else-folded-w+then-i-lens}
 use Rattle.magnetar_layout.proofs.layout.segment.Goals as goal
@@ -12,7 +12,7 @@ overflow_mul-w c =
 pub returns-then-is_err : goal.returns-then-is_err
 returns-then-is_err c =
     elim c.then-is_err.branch [
-      | then-is_err-via-then-is_err w ↦ part-refused _ _ _ _ (refused _ c.refusal.ensures (sym c.is_err.ensures.value ∙ w.if-is_err.true))
+      | then-is_err-via-then-is_err w ↦ part-refused _ _ _ _ (failed _ c.refusal.ensures (sym c.is_err.ensures.value ∙ w.if-is_err.true))
       | then-is_err-via-else-is_err+then-folded-w w ↦
           part-other _ _ _ _ (clear _ c.refusal.ensures (sym c.is_err.ensures.value ∙ w.if-is_err.false)) w.if-folded-w.true
       | then-is_err-via-else-is_err+else-folded-w+then-i-lens w ↦
