@@ -48,35 +48,35 @@ impl Refusal {
 impl fmt::Display for Refusal {
     fn fmt<W: fmt::Write>(&self, f: &mut fmt::Formatter<W>) -> fmt::Result {
         let why = match self {
-            Refusal::Size => "the columns or the logins are no power of two within their limits",
-            Refusal::PackedWords => "not the packed words of as many logins",
-            Refusal::PublicWords => "not the public words of as many logins",
-            Refusal::Rows =>
-                "the rows are no power of two within their limits, or not the same in a system",
-            Refusal::Columns => "a matrix has other columns",
-            Refusal::EntryCount => "too many entries, or slices of other lengths",
+            Refusal::Size => "m or q is no power of two within its bounds",
+            Refusal::PackedWords => "the packed words are not those of q logins",
+            Refusal::PublicWords => "the public words are not m - 2 for each login",
+            Refusal::Rows => "a number of rows is no power of two, unequal or too large",
+            Refusal::Columns => "a matrix has not m columns",
+            Refusal::EntryCount =>
+                "a matrix has too many entries, or slices or counts do not fit each other",
             Refusal::EntryPlace => "an entry lies outside its matrix",
-            Refusal::SegmentLength => "no segment has such a length",
-            Refusal::LayoutEnd => "the segments end past the columns",
-            Refusal::SegmentCount => "too many segments",
-            Refusal::Length => "a point, a vector or the alphas are not of the wanted length",
-            Refusal::NotBits => "a value exceeds 1, or a column the witness columns",
-            Refusal::MaskBits => "a mask has more bits than there are logins, or than a word has",
-            Refusal::Counter => "the transcript's counter is too large",
+            Refusal::SegmentLength => "a segment's length is no power of two up to m / 2",
+            Refusal::LayoutEnd => "the segments end past m / 2",
+            Refusal::SegmentCount => "there are over 64 segments",
+            Refusal::Length => "a point, vector or list has the wrong length",
+            Refusal::NotBits => "masks of a value over 1 or of a column past m/2",
+            Refusal::MaskBits => "v is over log2 q or over 6",
+            Refusal::Counter => "the transcript's counter is 2^32 or more",
             Refusal::Room => "an output or the scratch is too short",
-            Refusal::ProofWords => "not the words of a proof",
-            Refusal::PartLengths => "the parts do not add up to the bytes",
-            Refusal::SharedBin => "a shared round of bin",
-            Refusal::SharedFld => "a shared round of fld",
-            Refusal::RowBin => "a row round of bin",
-            Refusal::RowFld => "a row round of fld",
-            Refusal::TerminalBin => "the terminals of bin",
-            Refusal::TerminalFld => "the terminals of fld",
-            Refusal::InnerRound => "an inner round",
-            Refusal::InnerTerminal => "the claim that the inner rounds leave",
-            Refusal::SegmentIdentity => "the segment values",
+            Refusal::ProofWords => "the proof has the wrong number of words",
+            Refusal::PartLengths => "the lengths of the parts do not add up",
+            Refusal::SharedBin => "a shared round of bin does not add up",
+            Refusal::SharedFld => "a shared round of fld does not add up",
+            Refusal::RowBin => "a row round of bin does not add up",
+            Refusal::RowFld => "a row round of fld does not add up",
+            Refusal::TerminalBin => "bin's outer sum-check ends wrong",
+            Refusal::TerminalFld => "fld's outer sum-check ends wrong",
+            Refusal::InnerRound => "an inner round does not add up",
+            Refusal::InnerTerminal => "the inner sum-check ends wrong",
+            Refusal::SegmentIdentity => "the segment values do not add up to v_z",
         };
-        write!(f, "{}: {why}", self.number())
+        write!(f, "{why}")
     }
 }
 
