@@ -76,7 +76,7 @@ impl fmt::Display for Refusal {
             Refusal::InnerTerminal => "the inner sum-check ends wrong",
             Refusal::SegmentIdentity => "the segment values do not add up to v_z",
         };
-        write!(f, "{why}")
+        f.write_str(why)
     }
 }
 
