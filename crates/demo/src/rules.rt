@@ -10,12 +10,17 @@
 //                1        (f0 + f1 x + f2 x^2 + f3 x^3) * 1 = folder
 //                2        (e0 + e1 x) * 1 = edition
 //                3        empty
+use crate::vault::Batch;
 use magnetar_check::check;
 use magnetar_check::check::RowCheck;
 use magnetar_digest::digest;
-use magnetar_hash::transcript::{Transcript, TranscriptAnswer};
+use magnetar_field::refusal::Refusal;
+use magnetar_hash::transcript;
+use magnetar_hash::transcript::Transcript;
+use magnetar_matrix::entries::{Entry, Records};
 use magnetar_relation::shapes::{Shape, Shapes, SystemShape};
 use magnetar_spartan::virtual_spartan;
+use std::alloc::{AllocError, Global};
 
 const M: usize = 64;
 
@@ -26,9 +31,9 @@ const BIN: usize = 16;
 const FLD: usize = 4;
 
 // How many words of scratch the verifier and the prover of the vault ask for.
-pub(crate) const VERIFIER_SCRATCH: usize = 2 * M + 2 * BIN + 2 * Q;
+const VERIFIER_SCRATCH: usize = 2 * M + 2 * BIN + 2 * Q;
 
-pub(crate) const PROVER_SCRATCH: usize = 8 * Q * (BIN + FLD) + 8 * M + 4 * BIN + 6 * Q;
+const PROVER_SCRATCH: usize = 8 * Q * (BIN + FLD) + 8 * M + 4 * BIN + 6 * Q;
 
 // How many public words the four logins have.
 pub(crate) const PUBLIC: usize = Q * (M - 2);
@@ -38,100 +43,25 @@ pub(crate) const SEGMENTS: [usize; 3] = [8, 8, 8];
 // Those of the office's template: two more, at column 24 and from column 28 on. Columns 25 to 27 are padding.
 pub(crate) const TEMPLATE: [usize; 5] = [8, 8, 8, 1, 4];
 
-// The rows and columns of the entries of each matrix; those of row 8 of A of bin, the sum with the checksum, stand apart.
-const AB_ROW: [usize; 12] = [0, 0, 1, 1, 2, 2, 3, 3, 4, 5, 6, 7];
-
-const SUM_ROW: [usize; 9] = [8; 9];
-
-const AB_COL: [usize; 12] = [0, 32, 2, 32, 4, 32, 6, 32, 16, 18, 20, 8];
-
-const SUM_COL: [usize; 9] = [0, 1, 2, 3, 4, 5, 6, 7, 9];
-
-const BB_ROW: [usize; 13] = [0, 0, 1, 1, 2, 2, 3, 3, 4, 5, 6, 7, 8];
-
-const BB_COL: [usize; 13] = [1, 32, 3, 32, 5, 32, 7, 32, 17, 19, 21, 22, 32];
-
-const CB_ROW: [usize; 7] = [0, 1, 2, 3, 4, 5, 6];
-
-const CB_COL: [usize; 7] = [16, 17, 18, 19, 20, 21, 22];
-
-const AF_ROW: [usize; 8] = [0, 0, 1, 1, 1, 1, 2, 2];
-
-const AF_COL: [usize; 8] = [8, 32, 12, 13, 14, 15, 10, 11];
-
-const BF_ROW: [usize; 10] = [0, 0, 0, 0, 0, 0, 0, 0, 1, 2];
-
-const BF_COL: [usize; 10] = [0, 1, 2, 3, 4, 5, 6, 7, 32, 32];
-
-const CF_ROW: [usize; 2] = [1, 2];
-
-const CF_COL: [usize; 2] = [33, 34];
-
-const HI: [u64; 61] = [0; 61];
-
-// Writes a number at a place, where there is one, and answers the next.
-fn put(out: &mut [usize], at: usize, n: usize) -> usize {
-    if at < out.len() {
-        out[at] = n;
-        return at + 1;
-    }
-    at
-}
-
-// Copies the numbers of one matrix to place n and behind it, and says where they end.
-fn join(out: &mut [usize], n: usize, part: &[usize]) -> usize {
-    let mut at = n;
-    let mut i = 0;
-    while i < part.len() {
-        at = put(out, at, part[i]);
-        i += 1;
-    }
-    at
-}
-
-// The rows of the entries of A, B, C of bin, then of A, B, C of fld, one matrix behind the other.
-fn rows() -> [usize; 61] {
-    let mut all = [0usize; 61];
-    let r = join(&mut all, 0, &AB_ROW);
-    let a = join(&mut all, r, &SUM_ROW);
-    let b = join(&mut all, a, &BB_ROW);
-    let c = join(&mut all, b, &CB_ROW);
-    let d = join(&mut all, c, &AF_ROW);
-    let e = join(&mut all, d, &BF_ROW);
-    let _end = join(&mut all, e, &CF_ROW);
-    all
-}
-
-// Their columns.
-fn cols() -> [usize; 61] {
-    let mut all = [0usize; 61];
-    let r = join(&mut all, 0, &AB_COL);
-    let a = join(&mut all, r, &SUM_COL);
-    let b = join(&mut all, a, &BB_COL);
-    let c = join(&mut all, b, &CB_COL);
-    let d = join(&mut all, c, &AF_COL);
-    let e = join(&mut all, d, &BF_COL);
-    let _end = join(&mut all, e, &CF_COL);
-    all
-}
-
-// The low words of their values: 1, but for the powers of x in A of fld, at the bits of folder and edition, and in B of fld, at those of
-// the secret.
-fn lows() -> [u64; 61] {
-    let mut all = [1u64; 61];
-    all[44] = 2;
-    all[45] = 4;
-    all[46] = 8;
-    all[48] = 2;
-    all[50] = 2;
-    all[51] = 4;
-    all[52] = 8;
-    all[53] = 16;
-    all[54] = 32;
-    all[55] = 64;
-    all[56] = 128;
-    all
-}
+// The entries, each its row, its column and its value, an element below x^64.
+const ENTRIES: [(usize, usize, u64); 61] = [
+    // A of bin
+    (0, 0, 1), (0, 32, 1), (1, 2, 1), (1, 32, 1), (2, 4, 1), (2, 32, 1), (3, 6, 1), (3, 32, 1),
+    (4, 16, 1), (5, 18, 1), (6, 20, 1), (7, 8, 1),
+    (8, 0, 1), (8, 1, 1), (8, 2, 1), (8, 3, 1), (8, 4, 1), (8, 5, 1), (8, 6, 1), (8, 7, 1), (8, 9, 1),
+    // B of bin
+    (0, 1, 1), (0, 32, 1), (1, 3, 1), (1, 32, 1), (2, 5, 1), (2, 32, 1), (3, 7, 1), (3, 32, 1),
+    (4, 17, 1), (5, 19, 1), (6, 21, 1), (7, 22, 1), (8, 32, 1),
+    // C of bin
+    (0, 16, 1), (1, 17, 1), (2, 18, 1), (3, 19, 1), (4, 20, 1), (5, 21, 1), (6, 22, 1),
+    // A of fld: the powers of x at the bits of folder and edition
+    (0, 8, 1), (0, 32, 1), (1, 12, 1), (1, 13, 2), (1, 14, 4), (1, 15, 8), (2, 10, 1), (2, 11, 2),
+    // B of fld: the powers of x at the bits of the secret
+    (0, 0, 1), (0, 1, 2), (0, 2, 4), (0, 3, 8), (0, 4, 16), (0, 5, 32), (0, 6, 64), (0, 7, 128),
+    (1, 32, 1), (2, 32, 1),
+    // C of fld
+    (1, 33, 1), (2, 34, 1),
+];
 
 fn shape(rows: usize, entries: usize) -> Shape {
     Shape {
@@ -155,98 +85,168 @@ fn shapes() -> Shapes {
     Shapes { bin, fld }
 }
 
-// The digest of the rules for four logins: sizes, segments and entries.
-pub(crate) fn digest(lens: &[usize]) -> [u8; 32] {
-    let row = rows();
-    let col = cols();
-    let lo = lows();
-    let r = digest::relation_digest(M, Q, lens, shapes(), &row, &col, &lo, &HI);
-    r.digest
+// The rules with the lengths of the segments.
+#[derive(Drop)]
+pub(crate) struct Rules {
+    alloc: Global,
+    lens: &'static [usize],
+    entries: Vec<Entry>,
 }
 
-// The first stray bit, or the first row that fails.
-pub(crate) fn row_check(
-    scratch: &mut [u64],
-    lens: &[usize],
-    packed: &[u64],
-    x: &[u64],
-) -> RowCheck {
-    let row = rows();
-    let col = cols();
-    let lo = lows();
-    check::row_check(
-        scratch,
-        M,
-        Q,
-        lens,
-        shapes(),
-        &row,
-        &col,
-        &lo,
-        &HI,
-        packed,
-        x,
-    )
+// What the office hands on: its answer, the proof, the claims and the transcript.
+#[derive(Drop)]
+pub(crate) struct Sent {
+    pub outcome: Result<(), Refusal>,
+    pub proof: Vec<u64>,
+    pub claims: Vec<u64>,
+    pub transcript: Transcript,
 }
 
-// The office's end.
-pub(crate) fn prove(
-    proof: &mut [u64],
-    claims: &mut [u64],
-    scratch: &mut [u64],
-    q: usize,
-    lens: &[usize],
-    packed: &[u64],
-    x: &[u64],
-    t: Transcript,
-) -> TranscriptAnswer {
-    let row = rows();
-    let col = cols();
-    let lo = lows();
-    virtual_spartan::prove_virtual_spartan(
-        proof,
-        claims,
-        scratch,
-        M,
-        q,
-        lens,
-        shapes(),
-        &row,
-        &col,
-        &lo,
-        &HI,
-        packed,
-        x,
-        t,
-    )
+// What the laptop says of a proof: its answer, the claims and the transcript.
+#[derive(Drop)]
+pub(crate) struct Home {
+    pub outcome: Result<(), Refusal>,
+    pub claims: Vec<u64>,
+    pub transcript: Transcript,
 }
 
-// The laptop's end: it sees no bit.
-pub(crate) fn verify(
-    claims: &mut [u64],
-    scratch: &mut [u64],
-    q: usize,
-    lens: &[usize],
-    x: &[u64],
-    proof: &[u64],
-    t: Transcript,
-) -> TranscriptAnswer {
-    let row = rows();
-    let col = cols();
-    let lo = lows();
-    virtual_spartan::verify_virtual_spartan(
-        claims,
-        scratch,
-        M,
-        q,
-        lens,
-        shapes(),
-        &row,
-        &col,
-        &lo,
-        &HI,
-        x,
-        proof,
-        t,
-    )
+impl Rules {
+    pub(crate) fn new(alloc: Global, lens: &'static [usize]) -> Result<Rules, AllocError> {
+        let mut entries = Vec::with_capacity(alloc, ENTRIES.len())?;
+        for (row, col, lo) in ENTRIES {
+            entries.push(Entry {
+                row,
+                col,
+                lo,
+                hi: 0,
+            })?;
+        }
+        Ok(Rules {
+            alloc,
+            lens,
+            entries,
+        })
+    }
+
+    // The same entries with other segments.
+    pub(crate) fn with_segments(&self, lens: &'static [usize]) -> Result<Rules, AllocError> {
+        Rules::new(self.alloc, lens)
+    }
+
+    // The digest of the rules for four logins: sizes, segments and entries.
+    pub(crate) fn digest(&self) -> Result<[u8; 32], Refusal> {
+        let es = Records {
+            entries: self.entries.as_slice(),
+        };
+        digest::relation_digest(M, Q, self.lens, shapes(), &es)
+    }
+
+    // The transcript that both ends start with, bound to the rules, to the commitment and to the public words before anything is drawn
+    // from it.
+    pub(crate) fn start(&self, batch: &Batch) -> anyhow::Result<Transcript> {
+        self.start_with(batch.commitment()?, batch.public())
+    }
+
+    // The same with a commitment and public words.
+    pub(crate) fn start_with(&self, committed: [u8; 32], x: &[u64]) -> anyhow::Result<Transcript> {
+        let mut parts = Vec::new(self.alloc);
+        parts.extend_from_slice(&self.digest()?)?;
+        parts.extend_from_slice(&committed)?;
+        let t = transcript::new(b"vault", parts.as_slice(), &[32, 32])?;
+        Ok(transcript::absorb_field(t, b"public words", x)?)
+    }
+
+    // The first stray bit, or the first row that fails.
+    pub(crate) fn row_check(&self, batch: &Batch) -> Result<RowCheck, Refusal> {
+        let es = Records {
+            entries: self.entries.as_slice(),
+        };
+        let mut scratch = [0u64; 6 * BIN];
+        check::row_check(
+            &mut scratch,
+            M,
+            Q,
+            self.lens,
+            shapes(),
+            &es,
+            batch.packed(),
+            batch.public(),
+        )
+    }
+
+    // How many words the claims have: 2 elements of r_inst, 5 of r_low, and a value for each segment.
+    fn claim_words(&self) -> usize {
+        2 * 7usize.saturating_add(self.lens.len().min(64))
+    }
+
+    // How many words a proof has.
+    fn proof_words(&self) -> usize {
+        2 * 65usize.saturating_add(self.lens.len().min(64))
+    }
+
+    // The office's end, for q logins.
+    pub(crate) fn prove(
+        &self,
+        q: usize,
+        batch: &Batch,
+        t: Transcript,
+    ) -> Result<Sent, AllocError> {
+        let es = Records {
+            entries: self.entries.as_slice(),
+        };
+        let mut proof = vec![in self.alloc; 0u64; self.proof_words()]?;
+        let mut claims = vec![in self.alloc; 0u64; self.claim_words()]?;
+        let mut scratch = [0u64; PROVER_SCRATCH];
+        let answer = virtual_spartan::prove_virtual_spartan(
+            proof.as_mut_slice(),
+            claims.as_mut_slice(),
+            &mut scratch,
+            M,
+            q,
+            self.lens,
+            shapes(),
+            &es,
+            batch.packed(),
+            batch.public(),
+            t,
+        );
+        Ok(Sent {
+            outcome: answer.map(|_| ()),
+            proof,
+            claims,
+            transcript: answer.unwrap_or(t),
+        })
+    }
+
+    // The laptop's end, for q logins: it sees no bit.
+    pub(crate) fn verify(
+        &self,
+        q: usize,
+        x: &[u64],
+        proof: &[u64],
+        t: Transcript,
+    ) -> Result<Home, AllocError> {
+        let es = Records {
+            entries: self.entries.as_slice(),
+        };
+        let mut claims = vec![in self.alloc; 0u64; self.claim_words()]?;
+        let mut scratch = [0u64; VERIFIER_SCRATCH];
+        let verified = virtual_spartan::verify_virtual_spartan(
+            claims.as_mut_slice(),
+            &mut scratch,
+            M,
+            q,
+            self.lens,
+            shapes(),
+            &es,
+            x,
+            proof,
+            t,
+        );
+        Ok(Home {
+            outcome: verified.outcome,
+            claims,
+            transcript: verified.transcript,
+        })
+    }
 }

@@ -1,170 +1,157 @@
 // A login as bits, and its public columns. Columns 0 to 7 are the secret, 8 says that it is saved, 9 is the checksum, 10 and 11 are the
 // key edition, 12 to 15 the folder. Columns 16 to 22 help the rule on empty secrets: 16 to 19 say that two of the secret's bits are both
 // 0, 20 and 21 that four are, 22 that all are.
-use crate::text::{Out, print};
-use crate::{rules, text};
+use crate::rules;
+use anyhow::Result;
 use magnetar_field::gf128::Gf128;
 use magnetar_field::{gf128, words};
 use magnetar_hash::transcript;
-use magnetar_hash::transcript::Transcript;
-use std::io;
+use std::fmt;
 
-// Whether bits 0 and 1 are both 0.
-fn none2(s: u64) -> u64 {
-    ((s | (s >> 1)) & 1) ^ 1
-}
-
-// Whether bits 0 to 3 are all 0.
-fn none4(s: u64) -> u64 {
-    none2(s) & none2(s >> 2)
-}
-
-// The columns 16 to 19, as bits 0 to 3.
-fn none_pairs(s: u64) -> u64 {
-    none2(s) | (none2(s >> 2) << 1) | (none2(s >> 4) << 2) | (none2(s >> 6) << 3)
-}
-
-// The columns 16 to 22, as bits 0 to 6.
-fn helpers(s: u64) -> u64 {
-    let low = none4(s);
-    let high = none4(s >> 4);
-    none_pairs(s) | (low << 4) | (high << 5) | ((low & high) << 6)
-}
-
-// The sum of bits 0 to 7.
-fn parity(s: u64) -> u64 {
-    let four = s ^ (s >> 4);
-    let two = four ^ (four >> 2);
-    (two ^ (two >> 1)) & 1
-}
-
-// The word of a login with a secret of 8 bits, an edition of 2 and a folder of 4.
-pub(crate) fn login(secret: u64, saved: u64, edition: u64, folder: u64) -> u64 {
-    let rest = saved | (parity(secret) << 1) | (edition << 2) | (folder << 4);
-    secret | (rest << 8) | (helpers(secret) << 16)
-}
-
-// Sets the bits of login u: a login is two words, and its 32 bits are in the first.
-pub(crate) fn put(packed: &mut [u64], u: usize, w: u64) {
-    if u < 4 {
-        if 2 * u < packed.len() {
-            packed[2 * u] = w;
-        }
-    }
-}
-
-fn get(packed: &[u64], u: usize) -> u64 {
-    if u < 4 {
-        if 2 * u < packed.len() {
-            return packed[2 * u];
-        }
-    }
-    0
+// A secret of 8 bits, whether it is saved, an edition of 2 bits and a folder of 4.
+#[derive(Clone, Copy)]
+pub(crate) struct Login {
+    pub secret: u8,
+    pub saved: bool,
+    pub edition: u8,
+    pub folder: u8,
 }
 
 // The four logins that the office has saved.
-pub(crate) fn logins() -> [u64; 8] {
-    let mut packed = [0u64; 8];
-    put(&mut packed, 0, login(0x4b, 1, 2, 5));
-    put(&mut packed, 1, login(0xa7, 1, 3, 5));
-    put(&mut packed, 2, login(0, 0, 1, 9));
-    put(&mut packed, 3, login(0x80, 1, 1, 9));
-    packed
-}
+pub(crate) const LOGINS: [Login; 4] = [
+    Login {
+        secret: 0x4b,
+        saved: true,
+        edition: 2,
+        folder: 5,
+    },
+    Login {
+        secret: 0xa7,
+        saved: true,
+        edition: 3,
+        folder: 5,
+    },
+    Login {
+        secret: 0,
+        saved: false,
+        edition: 1,
+        folder: 9,
+    },
+    Login {
+        secret: 0x80,
+        saved: true,
+        edition: 1,
+        folder: 9,
+    },
+];
 
-fn small(lo: u64) -> Gf128 {
-    Gf128 { lo, hi: 0 }
-}
+// The bits of the secret that the columns 16 to 22 say are all 0.
+const NONE_OF: [u8; 7] = [0x03, 0x0c, 0x30, 0xc0, 0x0f, 0xf0, 0xff];
 
-// Sets the public columns of login u, which has 31: the edition, and before it the folder.
-pub(crate) fn publish(x: &mut [u64], u: usize, edition: u64, folder: u64) {
-    if u < 4 {
-        words::put(x, 31 * u, small(folder));
-        words::put(x, 31 * u + 1, small(edition));
+impl Login {
+    fn checksum(self) -> u32 {
+        self.secret.count_ones() % 2
+    }
+
+    // The columns 16 to 22, as bits 0 to 6.
+    fn helpers(self) -> u64 {
+        let mut bits = 0;
+        for (i, mask) in NONE_OF.iter().enumerate() {
+            if self.secret & *mask == 0 {
+                bits |= 1 << i;
+            }
+        }
+        bits
+    }
+
+    // Its 32 bits.
+    pub(crate) fn word(self) -> u64 {
+        u64::from(self.secret)
+            | (u64::from(self.saved) << 8)
+            | (u64::from(self.checksum()) << 9)
+            | (u64::from(self.edition) << 10)
+            | (u64::from(self.folder) << 12)
+            | (self.helpers() << 16)
     }
 }
 
-// The public words of the four, login after login: folder, edition, and zeros.
-pub(crate) fn public() -> [u64; rules::PUBLIC] {
-    let mut x = [0u64; rules::PUBLIC];
-    publish(&mut x, 0, 2, 5);
-    publish(&mut x, 1, 3, 5);
-    publish(&mut x, 2, 1, 9);
-    publish(&mut x, 3, 1, 9);
-    x
-}
-
-// The commitment to the bits. A hash of the packed words stands in for it: a commitment scheme is not part of this repository.
-pub(crate) fn commitment(packed: &[u64]) -> [u8; 32] {
-    let t = transcript::new(b"vault bits", b"", &[]);
-    let r = transcript::absorb_field(t.transcript, b"bits", packed);
-    transcript::state_digest(r.transcript)
-}
-
-// One hash behind the other.
-fn joined(a: [u8; 32], b: [u8; 32]) -> [u8; 64] {
-    let mut out = [0u8; 64];
-    let mut i = 0;
-    while i < 32 {
-        out[i] = a[i];
-        out[i + 32] = b[i];
-        i += 1;
+impl fmt::Display for Login {
+    fn fmt<W: fmt::Write>(&self, f: &mut fmt::Formatter<W>) -> fmt::Result {
+        let secret = self.secret;
+        let saved = u8::from(self.saved);
+        let checksum = self.checksum();
+        let edition = self.edition;
+        let folder = self.folder;
+        let word = self.word();
+        write!(
+            f,
+            "0x{secret:02x}         {saved}          {checksum}         {edition}        {folder}   0x{word:08x}"
+        )
     }
-    out
 }
 
-// The transcript that both ends start with, bound to the rules, to the commitment and to the public words before anything is drawn
-// from it.
-pub(crate) fn start(x: &[u64], committed: [u8; 32]) -> Transcript {
-    start_of(&rules::SEGMENTS, x, committed)
+// A batch as it is lent: two packed words for each login, whose 32 bits are in the first, and the public words, login after login.
+#[derive(Clone, Copy)]
+pub(crate) struct Batch {
+    pub packed: [u64; 8],
+    pub x: [u64; rules::PUBLIC],
 }
 
-// The same of rules with these segments.
-pub(crate) fn start_of(lens: &[usize], x: &[u64], committed: [u8; 32]) -> Transcript {
-    let parts = joined(rules::digest(lens), committed);
-    let t = transcript::new(b"vault", &parts, &[32, 32]);
-    let r = transcript::absorb_field(t.transcript, b"public words", x);
-    r.transcript
+impl Batch {
+    pub(crate) fn of(logins: &[Login; 4]) -> Batch {
+        let mut batch = Batch {
+            packed: [0; 8],
+            x: [0; rules::PUBLIC],
+        };
+        for (u, login) in logins.iter().enumerate() {
+            batch.packed[2 * u] = login.word();
+            batch.publish(u, *login);
+        }
+        batch
+    }
+
+    // The packed words.
+    pub(crate) fn packed(&self) -> &[u64] {
+        &self.packed
+    }
+
+    // The public words.
+    pub(crate) fn public(&self) -> &[u64] {
+        &self.x
+    }
+
+    // Sets the public columns of login u, which has 31: the folder, the edition, and zeros.
+    pub(crate) fn publish(&mut self, u: usize, login: Login) {
+        if u < 4 {
+            words::put(&mut self.x, 31 * u, small(login.folder));
+            words::put(&mut self.x, 31 * u + 1, small(login.edition));
+        }
+    }
+
+    // The commitment to the bits. A hash of the packed words stands in for it: a commitment scheme is not part of this repository.
+    pub(crate) fn commitment(&self) -> Result<[u8; 32]> {
+        let t = transcript::new(b"vault bits", b"", &[])?;
+        let t = transcript::absorb_field(t, b"bits", &self.packed)?;
+        Ok(transcript::state_digest(t))
+    }
+
+    // The same with edition 3 for login 0, and with the third of its public columns such that their value at r_low stays as it was: so the
+    // proof that these claims are of still fits. The elements 2 and 3 of the public half weigh (1 + r0) r1 and r0 r1 times the same.
+    pub(crate) fn exchanged(&self, claims: &[u64]) -> Batch {
+        let edition = small(3);
+        let r0 = words::get(claims, 2);
+        let change = gf128::add(edition, words::get(&self.x, 1));
+        let by = gf128::mul(change, gf128::add(gf128::ONE, r0));
+        let mut other = *self;
+        words::put(&mut other.x, 1, edition);
+        words::put(&mut other.x, 2, gf128::mul(by, gf128::inv(r0)));
+        other
+    }
 }
 
-// One that is bound to nothing: no end should start with it.
-pub(crate) fn unbound() -> Transcript {
-    let t = transcript::new(b"vault", b"", &[]);
-    t.transcript
-}
-
-// The public words with edition 3 for login 0, and with the third of its public columns such that their value at r_low stays as it was: so
-// the proof that these claims are of still fits. The elements 2 and 3 of the public half weigh (1 + r0) r1 and r0 r1 times the same.
-pub(crate) fn exchanged(x: &[u64], claims: &[u64]) -> [u64; rules::PUBLIC] {
-    let edition = small(3);
-    let r0 = words::get(claims, 2);
-    let by = gf128::mul(
-        gf128::add(edition, words::get(x, 1)),
-        gf128::add(gf128::ONE, r0),
-    );
-    let mut other = [0u64; rules::PUBLIC];
-    words::copy(x, &mut other);
-    words::put(&mut other, 1, edition);
-    words::put(&mut other, 2, gf128::mul(by, gf128::inv(r0)));
-    other
-}
-
-// A login's line.
-pub(crate) fn print_login(stdout: &mut Out, packed: &[u64], u: usize) -> io::Result<()> {
-    let w = get(packed, u);
-    print(stdout, b"    ")?;
-    text::count(stdout, u)?;
-    print(stdout, b"   0x")?;
-    text::hex(stdout, w & 255, 2)?;
-    print(stdout, b"         ")?;
-    text::number(stdout, (w >> 8) & 1)?;
-    print(stdout, b"          ")?;
-    text::number(stdout, (w >> 9) & 1)?;
-    print(stdout, b"         ")?;
-    text::number(stdout, (w >> 10) & 3)?;
-    print(stdout, b"        ")?;
-    text::number(stdout, (w >> 12) & 15)?;
-    print(stdout, b"   0x")?;
-    text::hex(stdout, w, 8)?;
-    print(stdout, b"\n")
+fn small(n: u8) -> Gf128 {
+    Gf128 {
+        lo: u64::from(n),
+        hi: 0,
+    }
 }

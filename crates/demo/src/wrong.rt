@@ -1,458 +1,206 @@
 // What goes wrong: a word of the proof, public words chosen after it, other bits than the committed ones, a login, public columns, padding
 // bits between two segments, a size.
-use crate::text::{Out, print};
-use crate::{opened, refusal, rules, text, vault};
-use magnetar_check::check::RowCheck;
-use magnetar_field::words;
+use crate::opened;
+use crate::opened::Claims;
+use crate::rules;
+use crate::rules::{Rules, Sent};
+use crate::said::{Answer, Out, Verdict};
+use crate::vault::{Batch, LOGINS, Login};
+use anyhow::Result;
+use magnetar_hash::transcript;
 use magnetar_hash::transcript::Transcript;
-use std::io;
-
-fn print_place(stdout: &mut Out, u: usize, i: usize) -> io::Result<()> {
-    print(stdout, b"login ")?;
-    text::count(stdout, u)?;
-    print(stdout, b", row ")?;
-    text::count(stdout, i)?;
-    print(stdout, b" does not hold\n")
-}
-
-fn print_stray(stdout: &mut Out, u: usize, y: usize) -> io::Result<()> {
-    print(stdout, b"stray bit: login ")?;
-    text::count(stdout, u)?;
-    print(stdout, b", column ")?;
-    text::count(stdout, y)?;
-    print(stdout, b", which no segment has\n")
-}
-
-fn print_verdict(stdout: &mut Out, r: RowCheck) -> io::Result<()> {
-    match r {
-        RowCheck::Good => print(
-            stdout,
-            b"good: no stray bit, and every row of both systems holds for every login\n",
-        ),
-        RowCheck::Stray(u, y) => print_stray(stdout, u, y),
-        RowCheck::Bin(u, i) => {
-            print(stdout, b"bin, ")?;
-            print_place(stdout, u, i)
-        }
-        RowCheck::Fld(u, i) => {
-            print(stdout, b"fld, ")?;
-            print_place(stdout, u, i)
-        }
-        RowCheck::Refused(code) => refusal::line(stdout, code),
-    }
-}
-
-// What the row check says.
-pub(crate) fn check(stdout: &mut Out, packed: &[u64], x: &[u64]) -> io::Result<()> {
-    let mut scratch = [0u64; 96];
-    print_verdict(
-        stdout,
-        rules::row_check(&mut scratch, &rules::SEGMENTS, packed, x),
-    )
-}
+use std::io::Write;
 
 // What the laptop says about a proof of q logins.
-fn verified(stdout: &mut Out, q: usize, x: &[u64], proof: &[u64], t: Transcript) -> io::Result<()> {
-    let mut claims = [0u64; 20];
-    let mut scratch = [0u64; rules::VERIFIER_SCRATCH];
-    let r = rules::verify(&mut claims, &mut scratch, q, &rules::SEGMENTS, x, proof, t);
-    refusal::line(stdout, r.code)
+fn verified(rules: &Rules, q: usize, x: &[u64], proof: &[u64], t: Transcript) -> Result<Answer> {
+    let home = rules.verify(q, x, proof, t)?;
+    Ok(Answer(home.outcome, "accepted"))
 }
 
-// The office's proof of q logins, its claims, and its answer.
-fn prove(
-    q: usize,
-    packed: &[u64],
-    x: &[u64],
-    t: Transcript,
-    proof: &mut [u64],
-    claims: &mut [u64],
-) -> u32 {
-    let mut scratch = [0u64; rules::PROVER_SCRATCH];
-    let r = rules::prove(
-        proof,
-        claims,
-        &mut scratch,
-        q,
-        &rules::SEGMENTS,
-        packed,
-        x,
-        t,
-    );
-    r.code
-}
-
-// What the laptop says about the proof of a batch, which the office has committed to.
-fn proved(stdout: &mut Out, packed: &[u64], x: &[u64]) -> io::Result<()> {
-    let mut proof = [0u64; 136];
-    let mut claims = [0u64; 20];
-    let t = vault::start(x, vault::commitment(packed));
-    let _done = prove(4, packed, x, t, &mut proof, &mut claims);
-    verified(stdout, 4, x, &proof, t)
+// What the laptop says about the office's proof of a batch that it has committed to.
+fn proved(rules: &Rules, batch: &Batch) -> Result<Answer> {
+    let t = rules.start(batch)?;
+    let sent = rules.prove(4, batch, t)?;
+    verified(rules, 4, batch.public(), sent.proof.as_slice(), t)
 }
 
 // ---- A word of the proof.
 
-// Bit 0 of word i is changed on the way.
-fn word(
-    stdout: &mut Out,
-    what: &[u8],
-    i: usize,
-    x: &[u64],
-    proof: &[u64],
-    t: Transcript,
-) -> io::Result<()> {
-    let mut sent = [0u64; 136];
-    words::copy(proof, &mut sent);
-    flip(&mut sent, i);
-    print(stdout, what)?;
-    verified(stdout, 4, x, &sent, t)
-}
+// The places of the proof's words of which one bit is changed on the way.
+const PLACES: [(&str, usize); 9] = [
+    ("a shared round's polynomial of bin", 2),
+    ("a shared round's polynomial of fld", 10),
+    ("a row round's polynomial of bin", 34),
+    ("a row round's polynomial of fld", 66),
+    ("a value of bin after these rounds", 80),
+    ("a value of fld after these rounds", 86),
+    ("an inner round's polynomial", 94),
+    ("v_z, the logins' value at its end", 128),
+    ("a segment's value", 130),
+];
 
-fn flip(s: &mut [u64], i: usize) {
-    if i < s.len() {
-        s[i] = s[i] ^ 1;
+fn proofs(out: &mut Out, rules: &Rules, batch: &Batch, sent: &Sent) -> Result<()> {
+    let t = rules.start(batch)?;
+    writeln!(out, "a bit of the proof is changed, in      verify says")?;
+    for (what, i) in PLACES {
+        let mut proof = sent.proof.clone()?;
+        if let Some(word) = proof.get_mut(i) {
+            *word ^= 1;
+        }
+        let answer = verified(rules, 4, batch.public(), proof.as_slice(), t)?;
+        writeln!(out, "  {what:<37}{answer}")?;
     }
-}
-
-pub(crate) fn proofs(
-    stdout: &mut Out,
-    x: &[u64],
-    committed: [u8; 32],
-    proof: &[u64],
-) -> io::Result<()> {
-    let t = vault::start(x, committed);
-    print(
-        stdout,
-        b"a bit of the proof is changed, in      verify says\n",
-    )?;
-    word(
-        stdout,
-        b"  a shared round's polynomial of bin   ",
-        2,
-        x,
-        proof,
-        t,
-    )?;
-    word(
-        stdout,
-        b"  a shared round's polynomial of fld   ",
-        10,
-        x,
-        proof,
-        t,
-    )?;
-    word(
-        stdout,
-        b"  a row round's polynomial of bin      ",
-        34,
-        x,
-        proof,
-        t,
-    )?;
-    word(
-        stdout,
-        b"  a row round's polynomial of fld      ",
-        66,
-        x,
-        proof,
-        t,
-    )?;
-    word(
-        stdout,
-        b"  a value of bin after these rounds    ",
-        80,
-        x,
-        proof,
-        t,
-    )?;
-    word(
-        stdout,
-        b"  a value of fld after these rounds    ",
-        86,
-        x,
-        proof,
-        t,
-    )?;
-    word(
-        stdout,
-        b"  an inner round's polynomial          ",
-        94,
-        x,
-        proof,
-        t,
-    )?;
-    word(
-        stdout,
-        b"  v_z, the logins' value at its end    ",
-        128,
-        x,
-        proof,
-        t,
-    )?;
-    word(
-        stdout,
-        b"  a segment's value                    ",
-        130,
-        x,
-        proof,
-        t,
-    )
+    Ok(())
 }
 
 // ---- Public words chosen after the proof.
 
-// Both ends start with a transcript that is bound to nothing.
-fn exchange_unbound(stdout: &mut Out, packed: &[u64], x: &[u64]) -> io::Result<()> {
-    let mut proof = [0u64; 136];
-    let mut claims = [0u64; 20];
-    let t = vault::unbound();
-    let _done = prove(4, packed, x, t, &mut proof, &mut claims);
-    let other = vault::exchanged(x, &claims);
-    print(stdout, b"  row check                ")?;
-    check(stdout, packed, &other)?;
-    print(stdout, b"  verify, nothing bound    ")?;
-    verified(stdout, 4, &other, &proof, t)
-}
-
-// The office's proof; the laptop binds the public words that it is given.
-fn exchange_bound(
-    stdout: &mut Out,
-    x: &[u64],
-    committed: [u8; 32],
-    proof: &[u64],
-    claims: &[u64],
-) -> io::Result<()> {
-    let other = vault::exchanged(x, claims);
-    print(stdout, b"  verify, both ends bound  ")?;
-    verified(stdout, 4, &other, proof, vault::start(&other, committed))
-}
-
-pub(crate) fn exchange(
-    stdout: &mut Out,
-    packed: &[u64],
-    x: &[u64],
-    committed: [u8; 32],
-    proof: &[u64],
-    claims: &[u64],
-) -> io::Result<()> {
-    print(
-        stdout,
-        b"login 0 is given edition 3 after the proof is made, and an unused public column with which the proof still fits\n",
+fn exchange(out: &mut Out, rules: &Rules, batch: &Batch, sent: &Sent) -> Result<()> {
+    writeln!(
+        out,
+        "login 0 is given edition 3 after the proof is made, and an unused public column with which the proof still fits"
     )?;
-    exchange_unbound(stdout, packed, x)?;
-    exchange_bound(stdout, x, committed, proof, claims)
+    // Both ends start with a transcript that is bound to nothing: none should.
+    let unbound = transcript::new(b"vault", b"", &[])?;
+    let free = rules.prove(4, batch, unbound)?;
+    let other = batch.exchanged(free.claims.as_slice());
+    let verdict = Verdict(rules.row_check(&other));
+    writeln!(out, "  row check                {verdict}")?;
+    let answer = verified(rules, 4, other.public(), free.proof.as_slice(), unbound)?;
+    writeln!(out, "  verify, nothing bound    {answer}")?;
+    // The office's proof; the laptop binds the public words that it is given.
+    let other = batch.exchanged(sent.claims.as_slice());
+    let t = rules.start_with(batch.commitment()?, other.public())?;
+    let answer = verified(rules, 4, other.public(), sent.proof.as_slice(), t)?;
+    writeln!(out, "  verify, both ends bound  {answer}")?;
+    Ok(())
 }
 
 // ---- Other bits than the committed ones.
 
-// What the laptop says about a proof, and then of its claims whoever has the committed bits.
-fn claimed(
-    stdout: &mut Out,
-    packed: &[u64],
-    x: &[u64],
-    committed: [u8; 32],
-    proof: &[u64],
-) -> io::Result<()> {
-    let mut claims = [0u64; 20];
-    let mut scratch = [0u64; rules::VERIFIER_SCRATCH];
-    let t = vault::start(x, committed);
-    let r = rules::verify(&mut claims, &mut scratch, 4, &rules::SEGMENTS, x, proof, t);
-    print(stdout, b"  verify     ")?;
-    refusal::line(stdout, r.code)?;
-    print(stdout, b"  claims     ")?;
-    opened::claims(stdout, packed, committed, &claims)
-}
-
-// The batch `other` is proved, and the packed words are those committed to.
-fn proved_other(
-    stdout: &mut Out,
-    packed: &[u64],
-    other: &[u64],
-    x: &[u64],
-    committed: [u8; 32],
-) -> io::Result<()> {
-    let mut proof = [0u64; 136];
-    let mut claims = [0u64; 20];
-    let t = vault::start(x, committed);
-    let _done = prove(4, other, x, t, &mut proof, &mut claims);
-    claimed(stdout, packed, x, committed, &proof)
-}
-
 // Login 0 with another secret keeps the rules as well: the claims alone show that it was not committed to.
-pub(crate) fn other_bits(
-    stdout: &mut Out,
-    packed: &[u64],
-    x: &[u64],
-    committed: [u8; 32],
-) -> io::Result<()> {
-    let mut other = [0u64; 8];
-    words::copy(packed, &mut other);
-    vault::put(&mut other, 0, vault::login(0x4c, 1, 2, 5));
-    print(
-        stdout,
-        b"login 0 is proved with another secret than the one committed to\n  row check  ",
+fn other_bits(out: &mut Out, rules: &Rules, batch: &Batch) -> Result<()> {
+    let mut logins = LOGINS;
+    logins[0].secret = 0x4c;
+    let other = Batch::of(&logins);
+    writeln!(
+        out,
+        "login 0 is proved with another secret than the one committed to"
     )?;
-    check(stdout, &other, x)?;
-    proved_other(stdout, packed, &other, x, committed)
+    let verdict = Verdict(rules.row_check(&other));
+    writeln!(out, "  row check  {verdict}")?;
+    let t = rules.start(batch)?;
+    let sent = rules.prove(4, &other, t)?;
+    let home = rules.verify(4, batch.public(), sent.proof.as_slice(), t)?;
+    let answer = Answer(home.outcome, "accepted");
+    writeln!(out, "  verify     {answer}")?;
+    let claims = Claims::of(batch, batch.commitment()?, home.claims.as_slice())?;
+    writeln!(out, "  claims     {claims}")?;
+    Ok(())
 }
 
-// ---- A login.
+// ---- A login, and public columns.
 
-// Login u is w: what the row check says, and what the laptop says about a proof.
-fn login(
-    stdout: &mut Out,
-    what: &[u8],
-    u: usize,
-    w: u64,
-    packed: &[u64],
-    x: &[u64],
-) -> io::Result<()> {
-    let mut bad = [0u64; 8];
-    words::copy(packed, &mut bad);
-    vault::put(&mut bad, u, w);
-    print(stdout, what)?;
-    print(stdout, b"\n  row check  ")?;
-    check(stdout, &bad, x)?;
-    print(stdout, b"  verify     ")?;
-    proved(stdout, &bad, x)
+// What the row check says of a batch, and what the laptop says about a proof.
+fn bad(out: &mut Out, rules: &Rules, what: &str, batch: &Batch) -> Result<()> {
+    writeln!(out, "{what}")?;
+    let verdict = Verdict(rules.row_check(batch));
+    writeln!(out, "  row check  {verdict}")?;
+    let answer = proved(rules, batch)?;
+    writeln!(out, "  verify     {answer}")?;
+    Ok(())
 }
 
-pub(crate) fn batches(stdout: &mut Out, packed: &[u64], x: &[u64]) -> io::Result<()> {
-    login(
-        stdout,
-        b"login 2 is saved without a secret",
-        2,
-        vault::login(0, 1, 1, 9),
-        packed,
-        x,
+fn batches(out: &mut Out, rules: &Rules, batch: &Batch) -> Result<()> {
+    let mut other = *batch;
+    let saved = Login {
+        saved: true,
+        ..LOGINS[2]
+    };
+    other.packed[4] = saved.word();
+    bad(out, rules, "login 2 is saved without a secret", &other)?;
+    let mut other = *batch;
+    let older = Login {
+        edition: 2,
+        ..LOGINS[1]
+    };
+    other.packed[2] = older.word();
+    bad(
+        out,
+        rules,
+        "login 1 is of edition 2, which is right for login 0",
+        &other,
     )?;
-    login(
-        stdout,
-        b"login 1 is of edition 2, which is right for login 0",
-        1,
-        vault::login(0xa7, 1, 2, 5),
-        packed,
-        x,
+    // Login 0 and login 1 have the same folder, so their editions alone are exchanged.
+    let mut other = *batch;
+    other.publish(0, LOGINS[1]);
+    other.publish(1, LOGINS[0]);
+    bad(
+        out,
+        rules,
+        "the public columns of logins 0 and 1 are exchanged",
+        &other,
     )
-}
-
-// ---- Public columns.
-
-// Login 0 and login 1 have the same folder, so their editions alone are exchanged.
-pub(crate) fn columns(stdout: &mut Out, packed: &[u64], x: &[u64]) -> io::Result<()> {
-    let mut other = [0u64; rules::PUBLIC];
-    words::copy(x, &mut other);
-    vault::publish(&mut other, 0, 3, 5);
-    vault::publish(&mut other, 1, 2, 5);
-    print(
-        stdout,
-        b"the public columns of logins 0 and 1 are exchanged\n  row check  ",
-    )?;
-    check(stdout, packed, &other)?;
-    print(stdout, b"  verify     ")?;
-    proved(stdout, packed, &other)
 }
 
 // ---- Padding bits.
 
-// The vault whose logins 1 and 3 are made from the template, with these bits from column 24 on.
-fn made(packed: &[u64], bits: u64) -> [u64; 8] {
-    let mut out = [0u64; 8];
-    words::copy(packed, &mut out);
-    vault::put(&mut out, 1, vault::login(0xa7, 1, 3, 5) | bits);
-    vault::put(&mut out, 3, vault::login(0x80, 1, 1, 9) | bits);
-    out
-}
-
-// What the laptop says about a proof under the template's segments.
-fn template_verified(stdout: &mut Out, x: &[u64], proof: &[u64], t: Transcript) -> io::Result<()> {
-    let mut claims = [0u64; 24];
-    let mut scratch = [0u64; rules::VERIFIER_SCRATCH];
-    let r = rules::verify(&mut claims, &mut scratch, 4, &rules::TEMPLATE, x, proof, t);
-    print(stdout, b"  verify     ")?;
-    refusal::line(stdout, r.code)
-}
-
-// The office's proof, which it makes whether the batch is good or not.
-fn template_proved(stdout: &mut Out, packed: &[u64], x: &[u64]) -> io::Result<()> {
-    let mut proof = [0u64; 140];
-    let mut claims = [0u64; 24];
-    let mut scratch = [0u64; rules::PROVER_SCRATCH];
-    let t = vault::start_of(&rules::TEMPLATE, x, vault::commitment(packed));
-    let r = rules::prove(
-        &mut proof,
-        &mut claims,
-        &mut scratch,
-        4,
-        &rules::TEMPLATE,
-        packed,
-        x,
-        t,
-    );
-    print(stdout, b"  prove      ")?;
-    refusal::say(stdout, r.code, b"done")?;
-    print(stdout, b"\n")?;
-    template_verified(stdout, x, &proof, t)
-}
-
-// What the row check says, and both ends.
-fn template(stdout: &mut Out, packed: &[u64], x: &[u64]) -> io::Result<()> {
-    let mut scratch = [0u64; 96];
-    print(stdout, b"  row check  ")?;
-    print_verdict(
-        stdout,
-        rules::row_check(&mut scratch, &rules::TEMPLATE, packed, x),
-    )?;
-    template_proved(stdout, packed, x)
+// The vault whose logins 1 and 3 are made from the template, with these bits from column 24 on: what the row check says, and both ends. The
+// office makes a proof whether the batch is good or not.
+fn template(out: &mut Out, template: &Rules, batch: &Batch, bits: u64) -> Result<()> {
+    let mut made = *batch;
+    made.packed[2] |= bits;
+    made.packed[6] |= bits;
+    let verdict = Verdict(template.row_check(&made));
+    writeln!(out, "  row check  {verdict}")?;
+    let t = template.start(&made)?;
+    let sent = template.prove(4, &made, t)?;
+    let answer = Answer(sent.outcome, "done");
+    writeln!(out, "  prove      {answer}")?;
+    let answer = verified(template, 4, made.public(), sent.proof.as_slice(), t)?;
+    writeln!(out, "  verify     {answer}")?;
+    Ok(())
 }
 
 // Columns 24, 28 and 30 are set, and eight bits past the 32 columns; before they are cleared, columns 25 to 27 too.
-pub(crate) fn templates(stdout: &mut Out, packed: &[u64], x: &[u64]) -> io::Result<()> {
-    print(
-        stdout,
-        b"the office's template has two segments more, 24 and 28-31; in logins 1 and 3 it left the padding between them set\n",
+fn templates(out: &mut Out, rules: &Rules, batch: &Batch) -> Result<()> {
+    let with_two_more = rules.with_segments(&rules::TEMPLATE)?;
+    writeln!(
+        out,
+        "the office's template has two segments more, 24 and 28-31; in logins 1 and 3 it left the padding between them set"
     )?;
-    template(stdout, &made(packed, 0xff5f000000), x)?;
-    print(
-        stdout,
-        b"the padding is cleared; bits past the 32 columns stay set and never matter\n",
+    template(out, &with_two_more, batch, 0xff5f000000)?;
+    writeln!(
+        out,
+        "the padding is cleared; bits past the 32 columns stay set and never matter"
     )?;
-    template(stdout, &made(packed, 0xff51000000), x)
+    template(out, &with_two_more, batch, 0xff51000000)
 }
 
 // ---- A size.
 
-// The office proves q logins.
-fn prove_size(
-    stdout: &mut Out,
-    q: usize,
-    packed: &[u64],
-    x: &[u64],
-    t: Transcript,
-) -> io::Result<()> {
-    let mut proof = [0u64; 136];
-    let mut claims = [0u64; 20];
-    refusal::line(stdout, prove(q, packed, x, t, &mut proof, &mut claims))
+fn sizes(out: &mut Out, rules: &Rules, batch: &Batch, sent: &Sent) -> Result<()> {
+    let t = rules.start(batch)?;
+    let proof = sent.proof.as_slice();
+    writeln!(out, "wrong sizes")?;
+    let three = Answer(rules.prove(3, batch, t)?.outcome, "accepted");
+    writeln!(out, "  prove 3 logins                       {three}")?;
+    let eight = Answer(rules.prove(8, batch, t)?.outcome, "accepted");
+    writeln!(out, "  prove 8 logins, but 4 are packed     {eight}")?;
+    let answer = verified(rules, 8, batch.public(), proof, t)?;
+    writeln!(out, "  verify 8 logins by the columns of 4  {answer}")?;
+    let cut = opened::between(proof, 0, 134);
+    let answer = verified(rules, 4, batch.public(), cut, t)?;
+    writeln!(out, "  verify a proof without its end       {answer}")?;
+    Ok(())
 }
 
-pub(crate) fn sizes(
-    stdout: &mut Out,
-    packed: &[u64],
-    x: &[u64],
-    committed: [u8; 32],
-    proof: &[u64],
-) -> io::Result<()> {
-    let t = vault::start(x, committed);
-    print(
-        stdout,
-        b"wrong sizes\n  prove 3 logins                       ",
-    )?;
-    prove_size(stdout, 3, packed, x, t)?;
-    print(stdout, b"  prove 8 logins, but 4 are packed     ")?;
-    prove_size(stdout, 8, packed, x, t)?;
-    print(stdout, b"  verify 8 logins by the columns of 4  ")?;
-    verified(stdout, 8, x, proof, t)?;
-    print(stdout, b"  verify a proof without its end       ")?;
-    verified(stdout, 4, x, opened::between(proof, 0, 134), t)
+// All of it, with the office's proof and claims.
+pub(crate) fn all(out: &mut Out, rules: &Rules, batch: &Batch, sent: &Sent) -> Result<()> {
+    proofs(out, rules, batch, sent)?;
+    exchange(out, rules, batch, sent)?;
+    other_bits(out, rules, batch)?;
+    batches(out, rules, batch)?;
+    templates(out, rules, batch)?;
+    sizes(out, rules, batch, sent)
 }
