@@ -8,9 +8,7 @@ use native.Mathlib.Omega.{arith}
 use borrow.Author.Tests.{ne_eqb}
 use Rattle.magnetar_protocol.specs.Checks.{Check, first_failure, first_stop}
 use Rattle.magnetar_protocol.proofs.Phases.{Numbered}
-use Rattle.magnetar_protocol.specs.declared.first.Found.{Found}
-use Rattle.magnetar_protocol.specs.Found.{first_found}
-use Rattle.magnetar_protocol.specs.Found.{check, nothing, next_found, after}
+use Rattle.magnetar_protocol.specs.Found.{Found, first_found, check, nothing, next_found, after}
 
 pub next-kept : (f : Found) (c : Check) → (f.code ≡ 0 → ⊥) → next_found f c ≡ f
 unfolding next_found

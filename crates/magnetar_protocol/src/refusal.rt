@@ -1,49 +1,51 @@
 // The refusals 1, 4 and 8 to 10 of a run, by its sizes and its segments.
 ghost use Rattle.std.specs.Prelude.{◌≡◌, ◌≤◌};
+ghost use Rattle.magnetar_field.specs.Number.{number_of};
 ghost use Rattle.magnetar_layout.specs.Tests.{first_refusal, size_tests, rows_tests};
 ghost use Rattle.magnetar_protocol.specs.RunTests.{run_tests, outline_tests};
 
+use magnetar_field::refusal::{Refusal, require};
+use magnetar_layout::limits::{MOST_BATCH_ROWS, MOST_COLUMNS, MOST_LOGINS, MOST_ROWS};
 use magnetar_layout::{layout, tests};
 
 // 1: the columns and the logins.
-fn login_refusal(m: usize, q: usize) -> u32
-    ensures { result ≡ first_refusal 0 (size_tests m q) }
+#[tactic(auto, using(magnetar_layout::proofs::Passing::passing), unfolding(magnetar_layout::specs::Tests::or_refuse))]
+pub fn size_refusal(m: usize, q: usize) -> Result<(), Refusal>
+    ensures { number_of result ≡ first_refusal 0 (size_tests m q) }
 {
-    let z = tests::refuse(0, 1, !tests::is_size(2, 65536, m));
-    tests::refuse(z, 1, !tests::is_size(1, 4096, q))
+    require(tests::is_size(2, MOST_COLUMNS, m), Refusal::Size)?;
+    require(tests::is_size(1, MOST_LOGINS, q), Refusal::Size)
 }
 
-// 4: the rows of a system, alone and for q logins. An earlier number z stays.
-fn rows_refusal(z: u32, q: usize, n: usize) -> u32
+// 4: the rows of a system, alone and for q logins.
+#[tactic(auto, using(crate::proofs::Guards::rows), unfolding(magnetar_layout::specs::Tests::or_refuse))]
+fn rows_refusal(q: usize, n: usize) -> Result<(), Refusal>
     requires { q ≤ 4096 }
-    ensures { result ≡ first_refusal z (rows_tests q n) }
+    ensures { number_of result ≡ first_refusal 0 (rows_tests q n) }
 {
-    let y = tests::refuse(z, 4, !tests::is_size(1, 65536, n));
-    if y != 0 {
-        return y;
-    }
-    tests::refuse(0, 4, q * n > 1048576)
+    require(tests::is_size(1, MOST_ROWS, n), Refusal::Rows)?;
+    require(q * n <= MOST_BATCH_ROWS, Refusal::Rows)
 }
 
 // 1 and 4 of a run over q logins with m columns, rb rows of bin and rf rows of fld.
-pub(crate) fn size_refusal(m: usize, q: usize, rb: usize, rf: usize) -> u32
-    ensures { result ≡ first_refusal 0 (run_tests m q rb rf) }
+pub(crate) fn run_refusal(m: usize, q: usize, rb: usize, rf: usize) -> Result<(), Refusal>
+    ensures { number_of result ≡ first_refusal 0 (run_tests m q rb rf) }
 {
-    let z = login_refusal(m, q);
-    if z != 0 {
-        return z;
-    }
-    let z = rows_refusal(0, q, rb);
-    rows_refusal(z, q, rf)
+    size_refusal(m, q)?;
+    rows_refusal(q, rb)?;
+    rows_refusal(q, rf)
 }
 
 // 1, 4 and 8 to 10 of the same run with segments of these lengths over m / 2 columns.
-pub fn outline_refusal(m: usize, q: usize, rb: usize, rf: usize, lens: &[usize]) -> u32
-    ensures { result ≡ first_refusal 0 (outline_tests m q rb rf lens.now) }
+pub fn outline_refusal(
+    m: usize,
+    q: usize,
+    rb: usize,
+    rf: usize,
+    lens: &[usize],
+) -> Result<(), Refusal>
+    ensures { number_of result ≡ first_refusal 0 (outline_tests m q rb rf lens.now) }
 {
-    let z = size_refusal(m, q, rb, rf);
-    if z != 0 {
-        return z;
-    }
+    run_refusal(m, q, rb, rf)?;
     layout::refusal(m / 2, lens)
 }

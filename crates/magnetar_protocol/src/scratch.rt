@@ -1,16 +1,10 @@
 // How many words of scratch both ends of a run ask for.
 ghost use Rattle.std.specs.Prelude.{◌≡◌, ◌+◌, ◌*◌, ◌≤◌};
-ghost use Rattle.magnetar_protocol.specs.Scratch.{verifier_scratch, prover_scratch, verifier_scratch_words, prover_scratch_words};
+ghost use Rattle.magnetar_protocol.specs.Scratch.{verifier_scratch, prover_scratch, verifier_scratch_words, prover_scratch_words, asked};
 
 use crate::refusal;
+use magnetar_field::refusal::Refusal;
 use magnetar_field::sizes;
-
-// The number of a refusal or 0, and how many words of scratch are asked for, 0 where the call is refused.
-#[derive(Clone, Copy)]
-pub struct ScratchWords {
-    pub code: u32,
-    pub words: usize,
-}
 
 // The verifier's words.
 fn verifier_words(m: usize, q: usize, rb: usize, rf: usize) -> usize
@@ -39,25 +33,17 @@ fn prover_words(m: usize, q: usize, rb: usize, rf: usize) -> usize
 
 // How many words of scratch the verifier asks for, over q logins with m columns, rb rows of bin and rf rows of fld.
 // 1: no such columns or logins; 4: no such rows.
-pub fn verifier_scratch(m: usize, q: usize, rb: usize, rf: usize) -> ScratchWords
-    ensures { result ≡ verifier_scratch_words m q rb rf }
+pub fn verifier_scratch(m: usize, q: usize, rb: usize, rf: usize) -> Result<usize, Refusal>
+    ensures { asked result ≡ verifier_scratch_words m q rb rf }
 {
-    let z = refusal::size_refusal(m, q, rb, rf);
-    if z != 0 {
-        return ScratchWords { code: z, words: 0 };
-    }
-    let n = verifier_words(m, q, rb, rf);
-    ScratchWords { code: 0, words: n }
+    refusal::run_refusal(m, q, rb, rf)?;
+    Ok(verifier_words(m, q, rb, rf))
 }
 
 // And how many the prover asks for.
-pub fn prover_scratch(m: usize, q: usize, rb: usize, rf: usize) -> ScratchWords
-    ensures { result ≡ prover_scratch_words m q rb rf }
+pub fn prover_scratch(m: usize, q: usize, rb: usize, rf: usize) -> Result<usize, Refusal>
+    ensures { asked result ≡ prover_scratch_words m q rb rf }
 {
-    let z = refusal::size_refusal(m, q, rb, rf);
-    if z != 0 {
-        return ScratchWords { code: z, words: 0 };
-    }
-    let n = prover_words(m, q, rb, rf);
-    ScratchWords { code: 0, words: n }
+    refusal::run_refusal(m, q, rb, rf)?;
+    Ok(prover_words(m, q, rb, rf))
 }
