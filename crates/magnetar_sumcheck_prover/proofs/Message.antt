@@ -1,13 +1,16 @@
 -- From the sums over the pairs to the message: the middle coefficient is the sum of all three (Karatsuba), the eq factor is
 -- multiplied in, and the coefficients are stored at the front of the output.
 -- Assumes nothing.
-use mathlib.Core.Path.{◌≡◌, refl, sym, ap, ◌∙◌}
+use mathlib.Core.Path.{◌≡◌, refl, sym, ap, ap₂, ◌∙◌}
+use Rattle.std.proofs.Common.{map}
+use Rattle.std.proofs.lemmas.List.{take_more, map-append}
 use mathlib.Core.List.{List, [], ◌∷◌, ◌++◌}
 use Prim.Native.Nat.{ℕ, suc, ◌+◌, ◌*◌, ◌/◌, ◌%◌, ◌^◌, ◌≤◌, ◌<◌}
 use native.Mathlib.Omega.{arith}
-use lib.ListN.{length, get_or, set, drop, length-append, length-drop}
-use lib.Seq.{drop-cons}
+use lib.ListN.{length, get_or, set, take, drop, length-append, length-drop, length-map}
+use lib.Seq.{drop-cons, length-take-le}
 use borrow.Author.Tests.{lt-ltb}
+use Rattle.magnetar_field.specs.declared.gf128.Gf128.{Gf128}
 use Rattle.magnetar_field.specs.Gf128.{value, ◌⊕◌, ◌⊗◌}
 use Rattle.magnetar_field.specs.Words.{elements, words, stored}
 use Rattle.magnetar_field.proofs.Elements.{elements-length, words-length}
@@ -18,7 +21,7 @@ use Rattle.magnetar_sumcheck_verifier.specs.Sum.{sum_below}
 use Rattle.magnetar_sumcheck_verifier.specs.Order.{at₀, at₁, slope}
 use Rattle.magnetar_sumcheck_verifier.specs.Outer.{coefficient₀, coefficient₁, coefficient₂, at_one, weighted, times_eq, outer_message}
 use Rattle.magnetar_sumcheck_verifier.specs.Inner.{inner_sums, inner_message}
-use Rattle.magnetar_sumcheck_prover.specs.Sums.{sums, outer_sums, inner_sums_at}
+use Rattle.magnetar_sumcheck_prover.specs.Sums.{sums, summed, outer_summand, outer_sums, inner_summand, inner_sums_at}
 use Rattle.magnetar_sumcheck_prover.specs.Entries.{outer_refusal, outer_out, inner_refusal, inner_out}
 use Rattle.magnetar_sumcheck_prover.proofs.Steps.{sum-add, sum_same}
 
@@ -47,7 +50,16 @@ outer-middle v n e a b c = sum-three _ _ _ _ n one
     one i = ap (λ (x : ℕ). get_or e i 0 ⊗ x) (middle i)
         ∙ spread (get_or e i 0) (coefficient₀ v a b c i) (at_one v a b c i) (coefficient₂ v a b i)
 
-pub outer-message-is : (v k t n : ℕ) (e a b c : List ℕ) (s : Sums) → n ≡ length e → sums s ≡ outer_sums v e a b c n
+-- the sums of the pass, as those of the polynomials' coefficients
+outer-summed : (v n : ℕ) (e a b c : List ℕ) → summed v (outer_summand e a b c) n ≡ outer_sums v e a b c n
+unfolding summed outer_summand outer_sums weighted coefficient₀ at_one coefficient₂ slope at₀ at₁
+outer-summed v n e a b c = refl
+
+inner-summed : (v n : ℕ) (t z : List ℕ) → summed v (inner_summand t z) n ≡ inner_sums_at v t z n
+unfolding summed inner_summand inner_sums_at slope at₀ at₁
+inner-summed v n t z = refl
+
+outer-message-is : (v k t n : ℕ) (e a b c : List ℕ) (s : Sums) → n ≡ length e → sums s ≡ outer_sums v e a b c n
     → times_eq k t (value s.zero) (value s.zero ⊕ value s.one ⊕ value s.top) (value s.top) ≡ outer_message v k t e a b c
 unfolding sums outer_sums outer_message
 outer-message-is v k t n e a b c s l h = go
@@ -72,7 +84,7 @@ outer-message-is v k t n e a b c s l h = go
 inner-middle : (t₀ t₁ z₀ z₁ : ℕ) → t₀ ⊗ (z₀ ⊕ z₁) ⊕ (t₀ ⊕ t₁) ⊗ z₀ ≡ t₀ ⊗ z₀ ⊕ t₁ ⊗ z₁ ⊕ (t₀ ⊕ t₁) ⊗ (z₀ ⊕ z₁)
 inner-middle t₀ t₁ z₀ z₁ = simp (xor, ⊗-⊕, ⊕-⊗)
 
-pub inner-message-is : (v n : ℕ) (t z : List ℕ) (s : Sums) → n ≡ length t / 2 → sums s ≡ inner_sums_at v t z n
+inner-message-is : (v n : ℕ) (t z : List ℕ) (s : Sums) → n ≡ length t / 2 → sums s ≡ inner_sums_at v t z n
     → ◌≡◌ {A = List ℕ} (value s.zero ∷ (value s.zero ⊕ value s.one ⊕ value s.top) ∷ value s.top ∷ []) (inner_message v t z)
 unfolding sums inner_sums_at inner_message inner_sums
 inner-message-is v n t z s l h = go (length t / 2) l
@@ -103,6 +115,8 @@ times_eq-first k t q = ⊗-assoc k (1 ⊕ t) q
 
 pub times_eq-next : (k t q p : ℕ) → k ⊗ (1 ⊕ t) ⊗ q ⊕ k ⊗ p ≡ k ⊗ ((1 ⊕ t) ⊗ q ⊕ p)
 times_eq-next k t q p = ap (λ (x : ℕ). x ⊕ k ⊗ p) (⊗-assoc k (1 ⊕ t) q) ∙ sym (⊗-⊕ k ((1 ⊕ t) ⊗ q) p)
+
+pub ruleset times_eq_parts = (times_eq-first, times_eq-next)
 
 -- ---- elements stored one after the other
 set_pair : (p : List ℕ) (x y : ℕ) (r : List ℕ) (a b : ℕ) → set (set (p ++ (x ∷ y ∷ r)) (length p) a) (suc (length p)) b ≡ p ++ (a ∷ b ∷ r)
@@ -144,35 +158,38 @@ stored_next n xs out s v l h e = rw e (rw (lt-ltb n (length (words xs ++ drop (2
     places = rw (← next, ← count) (set_pair (words xs) (get_or out (length (words xs)) 0) (get_or out (suc (length (words xs))) 0)
         (drop (length (words xs) + 2) out) (v % 2 ^ 64) (v / 2 ^ 64))
 
-pub put_four : (out : List ℕ) (a b c d : ℕ) → 8 ≤ length out → stored (stored (stored (stored out 0 a) 1 b) 2 c) 3 d
-    ≡ words (a ∷ b ∷ c ∷ d ∷ []) ++ drop 8 out
-put_four out a b c d h = stored_next 3 (a ∷ b ∷ c ∷ []) out (stored (stored (stored out 0 a) 1 b) 2 c) d refl (omega arith)
-    (stored_next 2 (a ∷ b ∷ []) out (stored (stored out 0 a) 1 b) c refl (omega arith)
-    (stored_next 1 (a ∷ []) out (stored out 0 a) b refl (omega arith)
-    (stored_next 0 [] out out a refl (omega arith) (unfold words in refl))))
+-- the first i of the elements es are stored; one more
+pub stored-all : (out : List ℕ) (es : List Gf128) (i : ℕ) (d : Gf128) (s : List ℕ) → i < length es → 2 * length es ≤ length out
+    → s ≡ words (map value (take i es)) ++ drop (2 * i) out
+    → stored s i (value (get_or es i d)) ≡ words (map value (take (i + 1) es)) ++ drop (2 * (i + 1)) out
+stored-all out es i d s h l q = stored_next i (map value (take i es)) out s (value (get_or es i d)) count (omega arith) q
+    ∙ ap₂ (λ (xs : List ℕ) (k : ℕ). words xs ++ drop k out) more next
+  where
+    count : length (map value (take i es)) ≡ i
+    count = length-map (take i es) value ∙ length-take-le i es (omega arith)
 
-pub put_three : (out : List ℕ) (a b c : ℕ) → 6 ≤ length out → stored (stored (stored out 0 a) 1 b) 2 c
-    ≡ words (a ∷ b ∷ c ∷ []) ++ drop 6 out
-put_three out a b c h =
-    stored_next 2 (a ∷ b ∷ []) out (stored (stored out 0 a) 1 b) c refl (omega arith)
-    (stored_next 1 (a ∷ []) out (stored out 0 a) b refl (omega arith)
-    (stored_next 0 [] out out a refl (omega arith) (unfold words in refl)))
+    more : map value (take i es) ++ (value (get_or es i d) ∷ []) ≡ map value (take (i + 1) es)
+    more = sym (ap (map value) (take_more es i d h) ∙ map-append value (take i es) (get_or es i d ∷ []))
+
+    next : 2 * i + 2 ≡ 2 * (i + 1)
+    next = omega arith
 
 -- ---- the whole outcome where no refusal applies
-pub inner_out_lem : (out t z last : List ℕ) (v : ℕ) (s : Sums) → inner_refusal (length out) (length t) (length z) v ≡ 0
-    → sums s ≡ inner_sums_at v (elements t) (elements z) (length t / 4)
+pub inner-out : (out t z last : List ℕ) (v : ℕ) (s : Sums) → inner_refusal (length out) (length t) (length z) v ≡ 0
+    → sums s ≡ summed v (inner_summand (elements t) (elements z)) (length t / 4)
     → last ≡ words (value s.zero ∷ (value s.zero ⊕ value s.one ⊕ value s.top) ∷ value s.top ∷ []) ++ drop 6 out
     → last ≡ inner_out out t z v
-inner_out_lem out t z last v s e h p = rw e (p ∙ ap (λ (m : List ℕ). words m ++ drop 6 out) (inner-message-is v (length t / 4) (elements t)
-    (elements z) s pairs h))
+inner-out out t z last v s e h p = rw e (p ∙ ap (λ (m : List ℕ). words m ++ drop 6 out) (inner-message-is v (length t / 4) (elements t)
+    (elements z) s pairs (h ∙ inner-summed v _ (elements t) (elements z))))
   where
     pairs : length t / 4 ≡ length (elements t) / 2
     pairs = omega (arith, elements-length t)
 
 pub outer-out : (out e a b c last : List ℕ) (v k t : ℕ) (s : Sums)
     → outer_refusal (length out) (length e) (length a) (length b) (length c) v ≡ 0
-    → sums s ≡ outer_sums v (elements e) (elements a) (elements b) (elements c) (length e / 2)
+    → sums s ≡ summed v (outer_summand (elements e) (elements a) (elements b) (elements c)) (length e / 2)
     → last ≡ words (times_eq k t (value s.zero) (value s.zero ⊕ value s.one ⊕ value s.top) (value s.top)) ++ drop 8 out
     → last ≡ outer_out out e a b c v k t
 outer-out out e a b c last v k t s r h p = rw r (p ∙ ap (λ (m : List ℕ). words m ++ drop 8 out)
-    (outer-message-is v k t (length e / 2) (elements e) (elements a) (elements b) (elements c) s (sym (elements-length e)) h))
+    (outer-message-is v k t (length e / 2) (elements e) (elements a) (elements b) (elements c) s (sym (elements-length e))
+    (h ∙ outer-summed v _ (elements e) (elements a) (elements b) (elements c))))
