@@ -70,7 +70,7 @@ pub stored-out : (s : List ℕ) (i v : ℕ) → length s / 2 ≤ i → stored s 
 unfolding stored
 stored-out s i v h = rw (le-ltb i (length s / 2) h)
 
--- ---- loops that copy, and that fill with 0
+-- ---- words copied
 copy-suc : (i : ℕ) (s d : List ℕ) → i < length s → i < length d → set (take i s ++ drop i d) i (get_or s i 0) ≡ take (suc i) s ++ drop (suc i) d
 copy-suc i [] d hs hd = absurd (omega arith)
 copy-suc i (x ∷ s) [] hs hd = absurd (omega arith)
@@ -94,9 +94,6 @@ copy-all i s d d' h e = e ∙ go (leb (length s) (length d)) refl
         let l : length d < length s = leb-false _ _ t in
         let n : i ≡ length d = omega arith in
         rw (n, drop_of_length-le d {i = length d} (omega arith), drop_of_length-le d {i = length s} (omega arith))
-
-pub fill-all : (i n : ℕ) (d d' : List ℕ) → d' ≡ replicate i 0 ++ drop i d → length d ≡ i → n ≡ i → d' ≡ replicate n 0
-fill-all i n d d' e hd hn = rw (e, hn, drop_of_length-le d {i = i} (omega arith), append-nil)
 
 -- ---- elements of stored words
 pub elements-stored : (s : List ℕ) (i v : ℕ) → elements (stored s i v) ≡ set (elements s) i v

@@ -1,6 +1,5 @@
 pub mod Handed
 pub mod Xor
-pub mod Compared
 pub mod Product
 pub mod Reduction
 pub mod Shift

@@ -1,9 +1,13 @@
 -- The logarithm to the base 2 by halving.
 -- Assumes nothing.
-use Rattle.std.proofs.Common.{◌≡◌, ℕ, zero, suc, ◌+◌, ◌-◌, ◌*◌, ◌/◌, ◌%◌, ◌^◌, ◌<◌, ◌≤◌, refl, ap, ◌∙◌, mod-eq_of_lt, pow-suc, lt_of_not-le, zero-add, arith, pow_pos, pow_mono, pow-add, le-ltb, lt-ltb}
+use Rattle.std.proofs.Common.{◌≡◌, ℕ, zero, suc, ◌+◌, ◌-◌, ◌*◌, ◌/◌, ◌%◌, ◌^◌, ◌<◌, ◌≤◌, refl, ap, ◌∙◌, mod-eq_of_lt, pow-suc, lt_of_not-le, zero-add, arith, pow_pos, pow_mono, pow-add, le-ltb, lt-ltb, Bool, true, false, eqb, eq-eqb, ne_eqb, eqb-true, sym}
+use borrow.Author.Tests.{eqb-false}
 use native.Mathlib.Nat.{mul-mod_right}
 use lib.Pow.{pow-lt}
-use Rattle.magnetar_field.specs.Sizes.{halvings, log₂}
+use Rattle.std.specs.Int.{is_power_of_two}
+use Rattle.std.specs.Int.Count.{ones, ones_step}
+use Rattle.std.proofs.lemmas.Nat.{ones_le_self, zero_from_ones}
+use Rattle.magnetar_field.specs.Sizes.{halvings, log₂, power_of_two}
 
 -- below 2, nothing is left to halve
 pub halvings-end : (k n : ℕ) → n < 2 → halvings k n ≡ 0
@@ -47,35 +51,54 @@ pub log₂-is : (n : ℕ) → 0 < n → n < 2 ^ 64 → Log n (log₂ n)
 unfolding log₂
 log₂-is n p h = log-halvings 64 n p h
 
--- ---- the loop that halves: rest is n halved k times, and left halvings would do for any number
-pub record Halved (n rest k : ℕ) : Type 0 where
-  pub left : ℕ
-  pub all : k + left ≡ 64
-  pub small : rest < 2 ^ left
-  pub log : k + halvings left rest ≡ log₂ n
-
-pub halved-start : (n : ℕ) → n < 2 ^ 64 → Halved n n 0
+pub log₂-zero : log₂ 0 ≡ 0
 unfolding log₂
-halved-start n h = record { left = 64; all = refl; small = h; log = zero-add (halvings 64 n) }
+log₂-zero = halvings-end 64 0 (omega arith)
 
-halved-step : (n rest k left : ℕ) → 1 < rest → k + left ≡ 64 → rest < 2 ^ left → k + halvings left rest ≡ log₂ n
-    → Halved n (rest / 2) (k + 1)
-halved-step n rest k zero b a s l = absurd (omega arith)
-halved-step n rest k (suc left) b a s l = record {
-  left = left;
-  all = omega arith;
-  small = omega (arith, pow-suc 2 left);
-  log = omega (arith, l, halvings-more left rest b);
-}
+-- the logarithm is the only such number
+pub log₂-only : (n k : ℕ) → n < 2 ^ 64 → 2 ^ k ≤ n → n < 2 * 2 ^ k → k ≡ log₂ n
+log₂-only n k h least most =
+    let l = log₂-is n (omega (arith, pow_pos k)) h in
+    same (log₂ n) l.least l.most
+  where
+    same : (j : ℕ) → 2 ^ j ≤ n → n < 2 ^ suc j → k ≡ j
+    same j least' most' =
+        let below : (j < k → ⊥) = λ b. omega (arith, pow_mono {i = suc j} {j = k} b) in
+        let above : (k < j → ⊥) = λ b. omega (arith, pow-suc 2 k, pow_mono {i = suc k} {j = j} b) in
+        omega arith
 
-pub halved-more : (n rest k : ℕ) → Halved n rest k → 1 < rest → Halved n (rest / 2) (k + 1)
-halved-more n rest k h b = halved-step n rest k h.left b h.all h.small h.log
+-- ---- a number of one bit is a power of two
+ones-power : (k : ℕ) → ones (2 ^ k) ≡ 1
+ones-power zero = omega (arith, ones_step 1, ones_le_self 0)
+ones-power (suc k) =
+    let even : 2 ^ suc k % 2 ≡ 0 = omega (arith, pow-suc 2 k) in
+    let half : 2 ^ suc k / 2 ≡ 2 ^ k = omega (arith, pow-suc 2 k) in
+    ones_step (2 ^ suc k) ∙ rw (even, half, ones-power k)
 
-pub halved-end : (n rest k : ℕ) → Halved n rest k → rest ≤ 1 → k ≡ log₂ n
-halved-end n rest k h s = omega (arith, h.log, halvings-end h.left rest (omega arith))
+power-of-ones : (k n : ℕ) → n < 2 ^ k → ones n ≡ 1 → (j : ℕ) × (n ≡ 2 ^ j)
+power-of-ones zero n h e = absurd (omega (arith, ones_le_self n))
+power-of-ones (suc k) n h e = go (n % 2) refl (λ f. power-of-ones k (n / 2) (omega (arith, pow-suc 2 k)) f)
+  where
+    go : (b : ℕ) → n % 2 ≡ b → (ones (n / 2) ≡ 1 → (j : ℕ) × (n / 2 ≡ 2 ^ j)) → (j : ℕ) × (n ≡ 2 ^ j)
+    go zero z half =
+        let below = half (omega (arith, ones_step n)) in
+        (suc below.0, omega (arith, below.1, pow-suc 2 below.0))
+    go (suc b) z half =
+        let none : n / 2 ≡ 0 = zero_from_ones (n / 2) (omega (arith, ones_step n)) in
+        (0, omega arith)
+
+pub one-bit : (n : ℕ) → n < 2 ^ 64 → is_power_of_two n ≡ power_of_two n
+one-bit n h = go (eqb (ones n) 1) refl
+  where
+    go : (b : Bool) → eqb (ones n) 1 ≡ b → b ≡ power_of_two n
+    go true t =
+        let one = power-of-ones 64 n h (eqb-true (ones n) 1 t) in
+        let e : one.0 ≡ log₂ n = log₂-only n one.0 h (omega (arith, one.1)) (omega (arith, one.1, pow_pos one.0)) in
+        sym (eq-eqb _ _ (one.1 ∙ rw e))
+    go false t = sym (ne_eqb _ _ (λ e. eqb-false (ones n) 1 t (ap ones e ∙ ones-power (log₂ n))))
 
 pub log₂-lt : (n : ℕ) → n < 2 ^ 64 → log₂ n < 64
-log₂-lt zero h = let e : log₂ 0 ≡ 0 = unfold log₂ in halvings-end 64 0 (omega arith) in omega (arith, e)
+log₂-lt zero h = rw log₂-zero (omega arith)
 log₂-lt (suc n) h = small (log₂ (suc n)) (log₂-is (suc n) (omega arith) h).least
   where
     small : (k : ℕ) → 2 ^ k ≤ suc n → k < 64

@@ -7,7 +7,7 @@ ghost use Rattle.std.specs.Prelude.{◌≡◌, ◌+◌, ◌*◌, ◌/◌, ◌%�
 ghost use Rattle.magnetar_field.specs.Gf128.{value, ◌⊕◌, ◌⊗◌, times_x, power, inverse};
 ghost use Rattle.magnetar_field.specs.Residue.{wide, residue, Multiples, Combined};
 
-#[derive(Clone, Copy)]
+#[derive(Clone, Copy, Debug, PartialEq, Eq)]
 pub struct Gf128 {
     pub lo: u64,
     pub hi: u64,
@@ -38,7 +38,7 @@ pub fn add(a: Gf128, b: Gf128) -> Gf128
 pub fn mul_bit(r: Gf128, b: Gf128) -> Gf128
     ensures { value result ≡ value b % 2 * value r }
 {
-    let mask = std::num::wrapping_sub_u64(0, b.lo % 2);
+    let mask = (b.lo % 2).wrapping_neg();
     Gf128 {
         lo: r.lo & mask,
         hi: r.hi & mask,
@@ -49,17 +49,14 @@ pub fn mul_bit(r: Gf128, b: Gf128) -> Gf128
 pub fn equal(a: Gf128, b: Gf128) -> bool
     ensures { result ≡ (value a == value b) }
 {
-    if a.hi != b.hi {
-        return false;
-    }
-    a.lo == b.lo
+    a == b
 }
 
 // Whether the element is 0 or 1.
 pub fn is_bit(a: Gf128) -> bool
     ensures { result ≡ nat_lt (value a) 2 }
 {
-    if a.hi == 0 { a.lo < 2 } else { false }
+    a.hi == 0 && a.lo < 2
 }
 
 // The product.
@@ -91,9 +88,7 @@ pub fn pow(a: Gf128, k_lo: u64, k_hi: u64) -> Gf128
         result: ONE,
         base: a,
     };
-    let low = pow_word(start, k_lo);
-    let high = pow_word(low, k_hi);
-    high.result
+    pow_word(pow_word(start, k_lo), k_hi).result
 }
 
 // ---- The power's parts.
@@ -111,17 +106,13 @@ fn pow_bit(p: Powers, bit: u64) -> Powers
     ensures result { value result.result ≡ value p.result ⊗ power (value p.base) bit }
     ensures base { value result.base ≡ value p.base ⊗ value p.base }
 {
-    let base = p.base;
-    let result = p.result;
-    let next = square(base);
-    if bit == 0 {
-        Powers { result, base: next }
-    } else {
-        let more = mul(result, base);
-        Powers {
-            result: more,
-            base: next,
-        }
+    Powers {
+        result: if bit == 0 {
+            p.result
+        } else {
+            mul(p.result, p.base)
+        },
+        base: square(p.base),
     }
 }
 
@@ -133,11 +124,9 @@ fn pow_word(p: Powers, k: u64) -> Powers
 {
     let mut q = p;
     let mut rest = k;
-    let mut i: u32 = 0;
-    while i < 64 {
+    for _ in 0..u64::BITS {
         q = pow_bit(q, rest % 2);
-        rest = rest / 2;
-        i += 1;
+        rest /= 2;
     }
     q
 }
@@ -200,10 +189,8 @@ fn multiples_of(lo: &mut [u64; 16], hi: &mut [u64; 16], a: Gf128)
     hi[0] = 0;
     lo[1] = a.lo;
     hi[1] = a.hi;
-    let mut k = 1;
-    while k < 8 {
+    for k in 1..8 {
         multiples_step(lo, hi, k, a);
-        k += 1;
     }
 }
 
@@ -241,9 +228,7 @@ fn clmul128(a: Gf128, b: Gf128) -> Wide
         w2: 0,
         w3: 0,
     };
-    let mut i: u32 = 16;
-    while i > 0 {
-        i -= 1;
+    for i in (0..16).rev() {
         let j = nibble(b.lo, i);
         let k = nibble(b.hi, i);
         let x = Gf128 {

@@ -6,42 +6,33 @@ ghost use Rattle.magnetar_field.specs.Sizes.{log₂, power_of_two};
 pub fn log2(n: usize) -> usize
     ensures { (result ≡ log₂ n) × (result ≤ 63) }
 {
-    let mut rest = n;
-    let mut k = 0;
-    while rest > 1 {
-        rest = rest / 2;
-        k += 1;
-    }
-    k
+    if n == 0 { 0 } else { n.ilog2() as usize }
 }
 
 // Whether n is a power of two.
 pub fn is_power_of_two(n: usize) -> bool
     ensures { result ≡ power_of_two n }
 {
-    n == power_of_two(log2(n))
+    n.is_power_of_two()
 }
 
 // 2^k modulo 2^64: 0 where k is 64 or more.
 pub fn power_of_two(k: usize) -> usize
     ensures { result ≡ 2 ^ k % 2 ^ 64 }
 {
-    if k < 64 {
-        return 1 << k;
-    }
-    0
+    if k < 64 { 1 << k } else { 0 }
 }
 
 // The larger of two sizes.
 pub fn larger(a: usize, b: usize) -> usize
     ensures { result ≡ max a b }
 {
-    if a < b { b } else { a }
+    a.max(b)
 }
 
 // The smaller of two sizes.
 pub fn least(a: usize, b: usize) -> usize
     ensures { (result ≡ min a b) × (result ≤ b) }
 {
-    if a < b { a } else { b }
+    a.min(b)
 }

@@ -4,7 +4,6 @@ ghost use Rattle.magnetar_field.specs.Gf128.{value};
 ghost use Rattle.magnetar_field.specs.Words.{elements, stored, overlaid};
 
 use crate::gf128::{Gf128, ZERO};
-use crate::sizes;
 
 // The element at index i, or 0 where there is none.
 pub fn get(s: &[u64], i: usize) -> Gf128
@@ -36,21 +35,13 @@ pub fn put(s: &mut [u64], i: usize, e: Gf128)
 pub fn clear(s: &mut [u64])
     ensures { s.new ≡ replicate (length s.old) 0 }
 {
-    let mut i = 0;
-    while i < s.len() {
-        s[i] = 0;
-        i += 1;
-    }
+    s.fill(0);
 }
 
 // Copies the words of src over those of dst, as many as both have.
 pub fn copy(src: &[u64], dst: &mut [u64])
     ensures { dst.new ≡ overlaid src.now dst.old }
 {
-    let n = sizes::least(src.len(), dst.len());
-    let mut i = 0;
-    while i < n {
-        dst[i] = src[i];
-        i += 1;
-    }
+    let n = src.len().min(dst.len());
+    dst[..n].copy_from_slice(&src[..n]);
 }

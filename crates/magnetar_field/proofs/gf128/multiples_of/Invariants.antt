@@ -5,6 +5,3 @@ use Rattle.magnetar_field.proofs.gf128.multiples_of.Given as goal
 
 abbrev pub invariant-loop-k : goal.invariant-loop-k
 invariant-loop-k l = (0 < l.k) × (l.k ≤ 8) × Multiples (value l.a) l.lo l.hi (2 * l.k)
-
-abbrev pub decreases-loop-k : goal.decreases-loop-k
-decreases-loop-k l = 8 - l.k

@@ -1,14 +1,11 @@
-use Rattle.std.proofs.Common.{arith, rules}
-use Rattle.magnetar_field.proofs.Log2.{halved-start, halved-more, halved-end, log₂-lt}
+use Rattle.std.proofs.Common.{sym, arith, rules}
+use Rattle.magnetar_field.proofs.Log2.{log₂-zero, log₂-only}
 use Rattle.magnetar_field.proofs.sizes.log2.Goals as goal
 
-pub loop-rest-init : goal.loop-rest-init
-loop-rest-init c = halved-start _ (search rules)
+pub returns-then-n-eq0 : goal.returns-then-n-eq0
+returns-then-n-eq0 c = (rw (c.if-n-eq0.true, log₂-zero), omega arith)
 
-pub loop-rest-preserved : goal.loop-rest-preserved
-loop-rest-preserved c = halved-more _ _ _ c.loop-rest.invariant (omega arith)
-
-pub returns : goal.returns
-returns c =
-    let e = halved-end _ _ _ c.loop-rest.invariant (omega arith) in
-    (e, omega (arith, e, log₂-lt _ c.ranges.n.fits))
+pub returns-else-n-eq0 : goal.returns-else-n-eq0
+returns-else-n-eq0 c =
+    let l = c.ilog2.ensures in
+    (log₂-only c.args.n c.ilog2.result (search rules) l.power_le l.next_power_gt, omega (arith, l.bound))

@@ -5,5 +5,5 @@ use Rattle.magnetar_field.proofs.sizes.power_of_two.Goals as goal
 pub returns-then-k-lt64 : goal.returns-then-k-lt64
 returns-then-k-lt64 c = rw one-mul
 
-pub returns : goal.returns
-returns c = sym (power-past c.args.k c.if-k-lt64.false)
+pub returns-else-k-lt64 : goal.returns-else-k-lt64
+returns-else-k-lt64 c = sym (power-past c.args.k c.if-k-lt64.false)

@@ -4,11 +4,4 @@ use Rattle.magnetar_multilinear.proofs.multilinear.bind_entry.Goals as goal
 
 pub returns : goal.returns
 unfolding line
-returns c =
-    let p = c in
-    let a2 = c in
-    let m = c in
-    let a = c in
-    let g2 = c in
-    let g1 = c in
-    rw (p.put.ensures, elements-stored, a2.add-2.ensures, m.mul.ensures, a.add.ensures, g1.get-a.ensures, g2.get-b.ensures)
+returns c = rw (c.put.ensures, elements-stored, c.add-2.ensures, c.mul.ensures, c.add.ensures, c.get-a.ensures, c.get-b.ensures)
