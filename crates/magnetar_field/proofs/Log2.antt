@@ -1,6 +1,6 @@
 -- The logarithm to the base 2 by halving.
 -- Assumes nothing.
-use Rattle.std.proofs.Common.{◌≡◌, ℕ, zero, suc, ◌+◌, ◌-◌, ◌*◌, ◌/◌, ◌%◌, ◌^◌, ◌<◌, ◌≤◌, refl, ap, ◌∙◌, mod-eq_of_lt, pow-suc, lt_of_not-le, zero-add, arith, pow_pos, pow_mono, pow-add, le-ltb, lt-ltb, Bool, true, false, eqb, eq-eqb, ne_eqb, eqb-true, sym}
+use Rattle.std.proofs.Common.{◌≡◌, ℕ, zero, suc, ◌+◌, ◌-◌, ◌*◌, ◌/◌, ◌%◌, ◌^◌, ◌<◌, ◌≤◌, refl, ap, ◌∙◌, mod-eq_of_lt, pow-suc, lt_of_not-le, arith, pow_pos, pow_mono, pow-add, le-ltb, lt-ltb, Bool, true, false, eqb, eq-eqb, ne_eqb, eqb-true, sym}
 use borrow.Author.Tests.{eqb-false}
 use native.Mathlib.Nat.{mul-mod_right}
 use lib.Pow.{pow-lt}

@@ -7,6 +7,8 @@ ghost use Rattle.std.specs.Prelude.{◌≡◌, ◌+◌, ◌*◌, ◌/◌, ◌%�
 ghost use Rattle.magnetar_field.specs.Gf128.{value, ◌⊕◌, ◌⊗◌, times_x, power, inverse};
 ghost use Rattle.magnetar_field.specs.Residue.{wide, residue, Multiples, Combined};
 
+use std::ops::Add;
+
 #[derive(Clone, Copy, Debug, PartialEq, Eq)]
 pub struct Gf128 {
     pub lo: u64,
@@ -31,6 +33,18 @@ pub fn add(a: Gf128, b: Gf128) -> Gf128
     Gf128 {
         lo: a.lo ^ b.lo,
         hi: a.hi ^ b.hi,
+    }
+}
+
+impl Add for Gf128 {
+    ghost use Rattle.magnetar_field.specs.Gf128.{value, ◌⊕◌};
+
+    type Output = Gf128;
+
+    ghost add_gives = { λ a b sum. value sum ≡ value a ⊕ value b };
+
+    fn add(self, other: Gf128) -> Gf128 {
+        add(self, other)
     }
 }
 
@@ -161,7 +175,7 @@ fn times_x(a: Gf128) -> Gf128
         lo: (a.hi >> 63) * 0x87,
         hi: 0,
     };
-    add(wrapped, shl(a, 1))
+    wrapped + shl(a, 1)
 }
 
 // The multiples 2k and 2k + 1 of a, where those below 2k are there.
@@ -173,7 +187,7 @@ fn multiples_step(lo: &mut [u64; 16], hi: &mut [u64; 16], k: usize, a: Gf128)
         lo: lo[k],
         hi: hi[k],
     });
-    let more = add(twice, a);
+    let more = twice + a;
     lo[2 * k] = twice.lo;
     hi[2 * k] = twice.hi;
     lo[2 * k + 1] = more.lo;
@@ -250,11 +264,11 @@ fn reduce256(t: Wide) -> Gf128
 {
     let h = Gf128 { lo: t.w2, hi: t.w3 };
     let low = Gf128 { lo: t.w0, hi: t.w1 };
-    let folded = add(add(shl(h, 7), shl(h, 2)), add(shl(h, 1), h));
+    let folded = (shl(h, 7) + shl(h, 2)) + (shl(h, 1) + h);
     let q = (t.w3 >> 57) ^ (t.w3 >> 62) ^ (t.w3 >> 63);
     let rest = Gf128 {
         lo: (q << 7) ^ (q << 2) ^ (q << 1) ^ q,
         hi: 0,
     };
-    add(low, add(folded, rest))
+    low + (folded + rest)
 }

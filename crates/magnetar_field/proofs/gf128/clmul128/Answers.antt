@@ -7,28 +7,27 @@ loop-i-init c =
     let x = c.args in
     let m = c.multiples_of.ensures in
     let e = multiples-self _ _ _ (append-word 64 x.a.hi x.a.lo (search rules) (search rules)) m in
-    (search rules, rw e m, search rules, search rules, search rules, combed-start _ x.b.lo x.b.hi (search rules) (search rules))
+    (rw e m, search rules, search rules, search rules, combed-start _ x.b.lo x.b.hi (search rules) (search rules))
 
 pub comb-acc-requires : goal.comb-acc-requires
-comb-acc-requires c = combed-room _ _ _ _ _ _ c.loop-i-test.true c.loop-i.invariant.5
+comb-acc-requires c = combed-room _ _ _ _ _ _ (omega arith) c.loop-i.invariant.4
 
 pub loop-i-preserved : goal.loop-i-preserved
 loop-i-preserved c =
     let l = c.loop-i in
     let x = c.args in
-    let m = l.invariant.1 in
-    let t : 0 < l.i = c.loop-i-test.true in
+    let m = l.invariant.0 in
+    let t : 0 < l.i = omega arith in
     let a = l.acc in
-    let r = combed-room _ _ _ _ _ _ t l.invariant.5 in
+    let r = combed-room _ _ _ _ _ _ t l.invariant.4 in
     let j = c.nibble-j in
     let k = c.nibble-k in
     let s = c.comb-acc.ensures in (
-      omega arith,
       m,
       s.words.0,
       s.words.1,
       s.words.2,
-      combed-more _ x.b.lo x.b.hi _ _ _ _ _ _ l.i (search rules) (search rules) (wide-lt a.w0 a.w1 a.w2 a.w3 l.invariant.2 l.invariant.3 l.invariant.4 r) t l.invariant.0 l.invariant.5 s.small s.sum
+      combed-more _ x.b.lo x.b.hi _ _ _ _ _ _ l.i (search rules) (search rules) (wide-lt a.w0 a.w1 a.w2 a.w3 l.invariant.1 l.invariant.2 l.invariant.3 r) t (omega arith) l.invariant.4 s.small s.sum
           (m.multiple j.result (omega arith) ∙ rw j.ensures) (m.multiple k.result (omega arith) ∙ rw k.ensures),
     )
 
@@ -37,4 +36,4 @@ returns c =
     let x = c.args in
     let b = append-word 64 x.a.hi x.a.lo (search rules) (search rules) in
     let e = multiples-self _ _ _ b c.multiples_of.ensures in
-    rw e at (combed-end _ _ _ _ _ _ (rw e b) (search rules) (search rules) c.loop-i-test.false c.loop-i.invariant.5)
+    rw e at (combed-end _ _ _ _ _ _ (rw e b) (search rules) (search rules) (omega arith) c.loop-i.invariant.4)

@@ -6,9 +6,6 @@ use Rattle.magnetar_field.proofs.gf128.pow_word.Goals as goal
 pub loop-init : goal.loop-init
 loop-init c = (c.requires.0, c.requires.1, powering-start _ _ _ c.requires.1 (search rules))
 
-pub pow_bit-q-requires : goal.pow_bit-q-requires
-pow_bit-q-requires c = (omega arith, c.loop.invariant.0, c.loop.invariant.1)
-
 pub loop-preserved : goal.loop-preserved
 loop-preserved c =
     let l = c.loop in

@@ -1,4 +1,4 @@
-use Rattle.std.proofs.Common.{◌-◌, ◌^◌, ◌<◌, ◌≤◌}
+use Rattle.std.proofs.Common.{◌^◌, ◌<◌}
 use Rattle.magnetar_field.specs.Gf128.{value}
 use Rattle.magnetar_field.proofs.Power.{Powering}
 use Rattle.magnetar_field.proofs.gf128.pow_word.Given as goal

@@ -1,4 +1,4 @@
-use Rattle.std.proofs.Common.{sym, arith, rules}
+use Rattle.std.proofs.Common.{arith, rules}
 use Rattle.magnetar_field.proofs.Log2.{log₂-zero, log₂-only}
 use Rattle.magnetar_field.proofs.sizes.log2.Goals as goal
 

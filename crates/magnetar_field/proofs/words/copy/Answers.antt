@@ -1,4 +1,3 @@
-use Rattle.std.proofs.Common.{◌∙◌}
 use Rattle.magnetar_field.proofs.Elements.{copy-all}
 use Rattle.magnetar_field.proofs.words.copy.Goals as goal
 

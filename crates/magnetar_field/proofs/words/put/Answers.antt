@@ -1,9 +1,6 @@
-use Rattle.std.proofs.Common.{sym, arith, length-set, rules}
+use Rattle.std.proofs.Common.{sym, arith, rules}
 use Rattle.magnetar_field.proofs.Elements.{stored-in, stored-out}
 use Rattle.magnetar_field.proofs.words.put.Goals as goal
-
-pub bounds-s-k-then-i-s : goal.bounds-s-k-then-i-s
-bounds-s-k-then-i-s c = rw length-set (omega arith)
 
 pub returns-then-i-s : goal.returns-then-i-s
 returns-then-i-s c = let x = c.args in sym (stored-in x.s.now x.i x.e.lo x.e.hi (omega arith) (search rules))
