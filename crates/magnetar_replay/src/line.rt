@@ -1,7 +1,6 @@
 // A line: the name of a query, and words behind it, which are numbers or byte strings. Every function here takes any input: what does not
 // fit is left out, and a number that is not there reads as 0.
-ghost use Rattle.std.specs.Prelude.{◌≤◌, length};
-
+use crate::show::MARK;
 use std::alloc::{AllocError, Global};
 
 // The first word.
@@ -70,12 +69,24 @@ pub fn byte_strings(alloc: Global, line: &[u8]) -> Result<Strings, AllocError> {
     Ok(Strings { bytes, lens })
 }
 
-// The byte that two letters spell.
-pub fn byte(pair: &[u8]) -> u8 {
+// The byte that two letters spell; one that is missing is 0.
+fn byte(pair: &[u8]) -> u8 {
     match pair {
         [high, low] => (digit(*high) << 4) | digit(*low),
+        [high] => digit(*high) << 4,
         _ => 0,
     }
+}
+
+// The 32 bytes that the letters spell behind the name, whatever they are.
+pub fn hash(line: &[u8]) -> [u8; 32] {
+    let mut bytes = [0u8; 32];
+    let from = first_word(line).len().saturating_add(1);
+    let letters = line.get(from..).unwrap_or(&[]);
+    for (byte_at, pair) in bytes.iter_mut().zip(letters.chunks(2)) {
+        *byte_at = byte(pair);
+    }
+    bytes
 }
 
 impl Strings {
@@ -138,6 +149,11 @@ pub fn at(nums: &[u64], i: usize) -> u64 {
 // The same as a length.
 pub fn size(nums: &[u64], i: usize) -> usize {
     at(nums, i) as usize
+}
+
+// Words to write to, each marked.
+pub fn marked(alloc: Global, n: usize) -> Result<Vec<u64>, AllocError> {
+    Ok(vec![in alloc; MARK; n]?)
 }
 
 // Numbers as lengths.
