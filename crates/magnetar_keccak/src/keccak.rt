@@ -1,11 +1,11 @@
 // Keccak-f[1600], the permutation of FIPS 202. Lane x, y of the state is entry 5 * y + x.
 ghost use Rattle.std.specs.Prelude.{◌≡◌, ◌<◌, ◌%◌, ◌/◌};
-ghost use Rattle.magnetar_keccak.specs.State.{rotate, complement, ◌⊕◌, ◌·◌, lane};
+ghost use Rattle.magnetar_keccak.specs.State.{complement, ◌⊕◌, ◌·◌, lane};
 ghost use Rattle.magnetar_field.specs.Tabulate.{tabulate};
 ghost use Rattle.magnetar_keccak.specs.Offsets.{offset};
 ghost use Rattle.magnetar_keccak.specs.Rounds.{round_constant};
 ghost use Rattle.magnetar_keccak.specs.Keccak as fips;
-ghost use Rattle.magnetar_keccak.specs.Planes.{Effects, PlaneOf, stored};
+ghost use Rattle.magnetar_keccak.specs.Planes.{Effects, plane};
 
 // The offsets of rho, modulo 64.
 const OFFSETS: [u32; 25] = [
@@ -54,18 +54,6 @@ fn round_constant(i: usize) -> u64
     ROUND_CONSTANTS[i]
 }
 
-// A lane rotated up by n bits; a shift by 64 is no shift of a u64, so n = 0 goes by itself.
-fn rotate_left(w: u64, n: u32) -> u64
-    requires { n < 64 }
-    ensures { result ≡ rotate w n }
-{
-    if n == 0 {
-        w
-    } else {
-        (w << n) | (w >> (64 - n))
-    }
-}
-
 // The parity of column x.
 fn parity(a: &[u64; 25], x: usize) -> u64
     requires { x < 5 }
@@ -79,7 +67,7 @@ fn effect(a: &[u64; 25], x: usize) -> u64
     requires { x < 5 }
     ensures { result ≡ fips.effect a.now x }
 {
-    parity(a, (x + 4) % 5) ^ rotate_left(parity(a, (x + 1) % 5), 1)
+    parity(a, (x + 4) % 5) ^ parity(a, (x + 1) % 5).rotate_left(1)
 }
 
 fn effects(a: &[u64; 25]) -> [u64; 5]
@@ -101,7 +89,7 @@ fn moved(a: &[u64; 25], d: &[u64; 5], x: usize, y: usize) -> u64
 {
     let u = (x + 3 * y) % 5;
     let i = 5 * x + u;
-    rotate_left(a[i] ^ d[u], offset_at(i))
+    (a[i] ^ d[u]).rotate_left(offset_at(i))
 }
 
 // What chi makes of three lanes of a plane that follow each other.
@@ -111,45 +99,23 @@ fn chi(u: u64, v: u64, w: u64) -> u64
     u ^ (!v & w)
 }
 
-// The five lanes of a plane.
-#[derive(Clone, Copy)]
-struct Plane {
-    a: u64,
-    b: u64,
-    c: u64,
-    d: u64,
-    e: u64,
-}
-
 // The plane y after theta, rho, pi and chi.
-fn plane_at(a: &[u64; 25], d: &[u64; 5], y: usize) -> Plane
+fn plane_at(a: &[u64; 25], d: &[u64; 5], y: usize) -> [u64; 5]
     requires { Effects a.now d.now × (y < 5) }
-    ensures { PlaneOf (fips.chi (fips.pi (fips.rho (fips.theta a.now)))) y result }
+    ensures { result ≡ plane (fips.chi (fips.pi (fips.rho (fips.theta a.now)))) y }
 {
     let p = moved(a, d, 0, y);
     let q = moved(a, d, 1, y);
     let r = moved(a, d, 2, y);
     let s = moved(a, d, 3, y);
     let t = moved(a, d, 4, y);
-    Plane {
-        a: chi(p, q, r),
-        b: chi(q, r, s),
-        c: chi(r, s, t),
-        d: chi(s, t, p),
-        e: chi(t, p, q),
-    }
-}
-
-// The plane is stored at y.
-fn put(b: &mut [u64; 25], y: usize, p: Plane)
-    requires { y < 5 }
-    ensures { b.new ≡ stored b.old y p }
-{
-    b[5 * y] = p.a;
-    b[5 * y + 1] = p.b;
-    b[5 * y + 2] = p.c;
-    b[5 * y + 3] = p.d;
-    b[5 * y + 4] = p.e;
+    [
+        chi(p, q, r),
+        chi(q, r, s),
+        chi(r, s, t),
+        chi(s, t, p),
+        chi(t, p, q),
+    ]
 }
 
 // Round i. The steps theta to chi go plane by plane.
@@ -159,12 +125,10 @@ fn round(a: [u64; 25], i: usize) -> [u64; 25]
 {
     let d = effects(&a);
     let mut b = [0u64; 25];
-    let mut y = 0;
-    while y < 5 {
-        put(&mut b, y, plane_at(&a, &d, y));
-        y += 1;
+    for y in 0..5 {
+        b[5 * y..5 * y + 5].copy_from_slice(&plane_at(&a, &d, y));
     }
-    b[0] = b[0] ^ round_constant(i);
+    b[0] ^= round_constant(i);
     b
 }
 
@@ -173,11 +137,9 @@ pub fn permute(a: [u64; 25]) -> [u64; 25]
     ensures { result ≡ fips.permuted a }
 {
     let mut b = a;
-    let mut i = 0;
-    while i < 24 {
+    for i in 0..24 {
         let c = round(b, i);
         b = c;
-        i += 1;
     }
     b
 }

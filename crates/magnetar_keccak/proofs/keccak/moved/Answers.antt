@@ -1,15 +1,14 @@
 use mathlib.Core.Path.{◌∙◌}
-use native.Mathlib.Omega.{arith}
+use Rattle.std.proofs.lemmas.Nat.{xor_lt}
 use Rattle.magnetar_keccak.proofs.Lanes.{moved-from}
+use Rattle.magnetar_keccak.proofs.Rotate.{rotated}
 use Rattle.magnetar_keccak.specs.State.{◌⊕◌}
 use Rattle.magnetar_keccak.proofs.keccak.moved.Goals as goal
-
-pub rotate_left-requires : goal.rotate_left-requires
-rotate_left-requires c = omega (arith, c.offset_at.ensures)
 
 pub returns : goal.returns
 unfolding ◌⊕◌
 returns c =
-    let s = c in
+    let a = c.args in
     c.rotate_left.ensures
-    ∙ moved-from s.args.a.now s.args.d.now s.args.x s.args.y c.offset_at.result s.requires.0 s.requires.1 s.requires.2 c.offset_at.ensures
+    ∙ rotated _ _ (xor_lt 64 _ _ (c.fits-a _) (c.fits-d _))
+    ∙ moved-from a.a.now a.d.now a.x a.y c.offset_at.result c.requires.0 c.requires.1 c.requires.2 c.offset_at.ensures
