@@ -1,186 +1,142 @@
 // The verifier's checks with given elements in the place of the draws.
-use crate::text::{self, MARK, Out, at, print};
-use crate::told;
+use crate::case::Case;
+use crate::matrices::{MOST_SCRATCH, thirty_two, twelve};
+use crate::runs::MOST_CLAIMS;
 use magnetar_batch::{eval, fold};
-use magnetar_field::gf128::{self, Gf128};
-use magnetar_field::sizes::{least, log2};
+use magnetar_field::gf128;
+use magnetar_field::gf128::Gf128;
+use magnetar_field::refusal::Refusal;
+use magnetar_field::sizes::log2;
 use magnetar_field::words;
 use magnetar_multilinear::eq::EqBits;
 use magnetar_multilinear::multilinear;
-use magnetar_protocol::first::Found;
+use magnetar_protocol::first::Failure;
+use magnetar_replay::line;
+use magnetar_replay::show;
+use magnetar_replay::show::{Cleared, Out};
 use magnetar_verifier::{claims, end, outer};
+use std::alloc::Global;
 use std::io;
+use std::io::Write;
 
-// The query by name: its letters, the last one lowest.
-const CHECKS: u64 = 0x636865636b73;
-
-// checks C S PROOF DRAWS ALPHAS PB PF: the lists by number.
-
-fn first(nums: &[u64], sizes: &[usize]) -> Found {
-    outer::outer_checks(
-        told::m(sizes),
-        told::q(sizes),
-        told::rows_bin(sizes),
-        told::rows_fld(sizes),
-        told::lens(sizes),
-        text::after(nums, 2, 0),
-        text::after(nums, 2, 1),
-    )
-}
-
-// Twelve words of a list, 0 where it has fewer.
-pub(crate) fn twelve(s: &[u64]) -> [u64; 12] {
-    let mut a = [0u64; 12];
-    words::copy(s, &mut a);
-    a
-}
-
-// Thirty-two words of a list, 0 where it has fewer.
-pub(crate) fn thirty_two(s: &[u64]) -> [u64; 32] {
-    let mut a = [0u64; 32];
-    words::copy(s, &mut a);
-    a
+// The first n words, or all.
+fn first(s: &[u64], n: usize) -> &[u64] {
+    s.get(..n).unwrap_or(s)
 }
 
 // The inner point of m columns, with which the draws end.
-fn inner(nums: &[u64], m: usize) -> &[u64] {
-    let d = text::after(nums, 2, 1);
-    let k = least(2 * log2(m), d.len());
-    let a = d.len() - k;
-    &d[a..]
+fn inner(draws: &[u64], m: usize) -> &[u64] {
+    let k = draws.len().saturating_sub(2 * log2(m));
+    draws.get(k..).unwrap_or(draws)
 }
 
-// The value of the combined table at the inner point, which the last checks take.
-fn table_value(nums: &[u64], given: &[u64], sizes: &[usize], scratch: &mut [u64]) -> Gf128 {
-    let r = eval::eval_m_combo(
-        0,
-        scratch,
-        told::m(sizes),
-        told::shapes(sizes),
-        twelve(text::after(nums, 2, 2)),
-        thirty_two(text::after(nums, 2, 3)),
-        thirty_two(text::after(nums, 2, 4)),
-        thirty_two(inner(nums, told::m(sizes))),
-        told::row(sizes),
-        told::col(sizes),
-        told::lo(given),
-        told::hi(given),
-    );
-    r.value
-}
-
-fn last(nums: &[u64], sizes: &[usize], v: Gf128, p: Gf128) -> Found {
-    let m = told::m(sizes);
-    let q = told::q(sizes);
-    let rb = told::rows_bin(sizes);
-    let rf = told::rows_fld(sizes);
-    let proof = text::after(nums, 2, 0);
-    let draws = text::after(nums, 2, 1);
-    end::end_checks(m, q, rb, rf, told::lens(sizes), proof, draws, v, p)
-}
-
-fn claimed(nums: &[u64], sizes: &[usize], claims: &mut [u64]) -> u32 {
-    let m = told::m(sizes);
-    let q = told::q(sizes);
-    let rb = told::rows_bin(sizes);
-    let rf = told::rows_fld(sizes);
-    let draws = text::after(nums, 2, 1);
+// The claims of these draws.
+fn claimed(proof: &[u64], draws: &[u64], case: &Case, claims: &mut [u64]) -> Result<(), Refusal> {
     claims::write_claims(
-        m,
-        q,
-        rb,
-        rf,
-        told::lens(sizes),
-        text::after(nums, 2, 0),
+        case.m,
+        case.q,
+        case.shapes.bin.a.rows,
+        case.shapes.fld.a.rows,
+        case.lens.as_slice(),
+        proof,
         draws,
         claims,
     )
 }
 
-// The public half folded at the point of the logins, with which the claims begin, behind the first m elements.
-fn lay(nums: &[u64], given: &[u64], sizes: &[usize], scratch: &mut [u64]) {
-    let m = told::m(sizes);
-    let q = told::q(sizes);
-    let mut claims = [0u64; 256];
-    claimed(nums, sizes, &mut claims);
-    let a = 2 * least(m, scratch.len() / 2);
-    fold::fold_public_in(
-        told::x(given),
-        q,
-        m / 2,
-        text::first(&claims, 2 * log2(q)),
-        &mut scratch[a..],
+// The value of the combined table at the inner point, which the last checks take; 0 where it is refused.
+fn table_value(nums: &[u64], draws: &[u64], case: &Case, scratch: &mut [u64]) -> Gf128 {
+    let value = eval::eval_m_combo(
+        scratch,
+        case.m,
+        case.shapes,
+        twelve(line::list_from(nums, 2, 2)),
+        thirty_two(line::list_from(nums, 2, 3)),
+        thirty_two(line::list_from(nums, 2, 4)),
+        thirty_two(inner(draws, case.m)),
+        &case.slices(),
     );
+    value.unwrap_or(gf128::ZERO)
 }
 
 // The value at the point of the table in the first half of the words, by an eq table in the second. Both are cleared.
 fn value_at(t: &mut [u64], point: &[u64]) -> Gf128 {
     let n = t.len() / 2;
-    let e = 2 * n;
-    EqBits::build(point, gf128::ONE, &mut t[n..e]);
-    let v = multilinear::dot(&t[0..n], &t[n..e]);
+    let (table, eq) = t.split_at_mut(n);
+    let _built = EqBits::build(point, gf128::ONE, eq);
+    let v = multilinear::dot(table, eq);
     words::clear(t);
     v
 }
 
-// The value of the public half at the low point, the inner one without its last element.
-fn half_value(nums: &[u64], given: &[u64], sizes: &[usize], scratch: &mut [u64]) -> Gf128 {
-    lay(nums, given, sizes, scratch);
-    let m = least(told::m(sizes), scratch.len() / 4);
-    let a = 2 * m;
-    let e = 4 * m;
-    let point = text::first(inner(nums, m), 2 * log2(m / 2));
-    value_at(&mut scratch[a..e], point)
+// The value of the public half at the low point, the inner one without its last element. The half is folded at the point of the logins,
+// with which the claims begin, behind the first m elements.
+fn half_value(proof: &[u64], draws: &[u64], case: &Case, scratch: &mut [u64]) -> Gf128 {
+    let mut claims = [0u64; 256];
+    let _claimed = claimed(proof, draws, case, &mut claims);
+    let point = first(&claims, 2 * log2(case.q));
+    let a = 2 * case.m.min(scratch.len() / 2);
+    let _folded = fold::fold_public_in(
+        case.x.as_slice(),
+        case.q,
+        case.m / 2,
+        point,
+        &mut scratch[a..],
+    );
+    let m = case.m.min(scratch.len() / 4);
+    let low = first(inner(draws, m), 2 * log2(m / 2));
+    value_at(&mut scratch[2 * m..4 * m], low)
 }
 
 // The number, and how many events come before the check that gave it.
-fn print_found(stdout: &mut Out, f: Found) -> io::Result<()> {
-    print(stdout, b"= ")?;
-    text::print_number(stdout, text::wide(f.code))?;
-    print(stdout, b" ")?;
-    text::print_count(stdout, f.events)?;
-    print(stdout, b"\n")
+fn print_found(out: &mut Out, found: Result<(), Failure>) -> io::Result<()> {
+    match found {
+        Ok(()) => writeln!(out, "= 0 0"),
+        Err(failure) => {
+            let number = failure.check.number();
+            let events = failure.events;
+            writeln!(out, "= {number} {events}")
+        }
+    }
 }
 
-// The checks of the end and the claims.
-fn ended(
-    stdout: &mut Out,
-    nums: &[u64],
-    given: &[u64],
-    sizes: &[usize],
-    claims: &mut [u64],
-    scratch: &mut [u64],
-) -> io::Result<()> {
-    let v = table_value(nums, given, sizes, scratch);
-    let p = half_value(nums, given, sizes, scratch);
-    let f = last(nums, sizes, v, p);
-    print_found(stdout, f)?;
-    if f.code == 0 {
-        text::print_code(stdout, claimed(nums, sizes, claims), claims)?;
+// checks C S PROOF DRAWS ALPHAS PB PF: the checks one after the other, and the claims.
+fn checks(alloc: Global, out: &mut Out, nums: &[u64], case: &Case) -> io::Result<()> {
+    let mut claims = line::marked(alloc, line::size(nums, 0).min(MOST_CLAIMS))?;
+    let mut scratch = line::marked(alloc, line::size(nums, 1).min(MOST_SCRATCH))?;
+    let proof = line::list_from(nums, 2, 0);
+    let draws = line::list_from(nums, 2, 1);
+    let rb = case.shapes.bin.a.rows;
+    let rf = case.shapes.fld.a.rows;
+    let lens = case.lens.as_slice();
+    let found = outer::outer_checks(case.m, case.q, rb, rf, lens, proof, draws);
+    print_found(out, found)?;
+    if found.is_err() {
+        return Ok(());
     }
-    Ok(())
+    let v = table_value(nums, draws, case, scratch.as_mut_slice());
+    let p = half_value(proof, draws, case, scratch.as_mut_slice());
+    let found = end::end_checks(case.m, case.q, rb, rf, lens, proof, draws, v, p);
+    print_found(out, found)?;
+    if found.is_ok() {
+        let answer = claimed(proof, draws, case, claims.as_mut_slice());
+        show::written(out, answer, claims.as_slice())?;
+    }
+    let scratch = Cleared(scratch.as_slice());
+    writeln!(out, "= {scratch}")
 }
 
 // Answers the query, or says that it is none.
-pub(crate) fn answered(
-    stdout: &mut Out,
-    op: u64,
+pub(crate) fn answer(
+    alloc: Global,
+    out: &mut Out,
+    name: &[u8],
     nums: &[u64],
-    given: &[u64],
-    sizes: &[usize],
+    case: &Case,
 ) -> io::Result<bool> {
-    if op != CHECKS {
+    if name != b"checks".as_slice() {
         return Ok(false);
     }
-    let mut room = [MARK; 256];
-    let mut words = text::room();
-    let told_to = text::front(&mut room, text::size(at(nums, 0)));
-    let part = text::front(&mut words, text::size(at(nums, 1)));
-    let f = first(nums, sizes);
-    print_found(stdout, f)?;
-    if f.code == 0 {
-        ended(stdout, nums, given, sizes, told_to, part)?;
-        text::print_cleared(stdout, part)?;
-    }
+    checks(alloc, out, nums, case)?;
     Ok(true)
 }

@@ -3,117 +3,53 @@
 // after a line `alone` where it cannot be asked of records. A line that begins with # is copied.
 #![tactic(auto)]
 
-mod again;
+mod case;
 mod checks;
-mod digests;
-mod lent;
-mod rowcheck;
+mod matrices;
 mod runs;
-mod tables;
-mod text;
-mod told;
 
-use crate::text::{Out, print};
+use crate::case::Case;
+use magnetar_replay::show::Out;
+use magnetar_replay::{line, replay};
+use std::alloc::Global;
 use std::io;
-use std::io::{BufWriter, Read, Write};
+use std::io::{BufWriter, Write};
 
-// The line that tells a relation, by name: its letters, the last one lowest.
-const CASE: u64 = 0x63617365;
+// How many numbers a query may have.
+const MOST: usize = 1024;
 
-// Answers a query on the last relation, or says that it is none.
-fn answered(
-    stdout: &mut Out,
-    line: &[u8],
-    nums: &[u64],
-    given: &[u64],
-    sizes: &[usize],
-) -> io::Result<bool> {
-    let op = text::name(line);
-    if tables::answered(stdout, op, nums, given, sizes)? {
-        return Ok(true);
-    }
-    if rowcheck::answered(stdout, op, nums, given, sizes)? {
-        return Ok(true);
-    }
-    if digests::answered(stdout, op, given, sizes)? {
-        return Ok(true);
-    }
-    if checks::answered(stdout, op, nums, given, sizes)? {
-        return Ok(true);
-    }
-    runs::answered(stdout, op, runs::state(line), nums, given, sizes)
-}
-
-// One line: the numbers of the last relation are in `given` and, as sizes, in `sizes`.
-fn answer(
-    stdout: &mut Out,
-    line: &[u8],
-    nums: &mut [u64],
-    given: &mut [u64],
-    sizes: &mut [usize],
-) -> io::Result<()> {
-    if text::byte(line, 0) == b'#' {
-        print(stdout, line)?;
-        return print(stdout, b"\n");
-    }
-    if text::name(line) == CASE {
-        text::fill(given, 0);
-        if text::numbers(line, given) > given.len() {
-            text::too_long(stdout)?;
+// Answers the query of a line on the last relation, or says that it is none.
+fn answer(alloc: Global, out: &mut Out, text: &[u8], case: &mut Case) -> io::Result<bool> {
+    let nums = line::numbers(alloc, text)?;
+    if line::name(text) == b"case".as_slice() {
+        if nums.len() > case::MOST {
+            replay::too_long(out)?;
         }
-        text::as_sizes(given, sizes);
-        return Ok(());
+        *case = Case::new(alloc, nums)?;
+        return Ok(true);
     }
-    let n = text::numbers(line, nums);
-    if n > nums.len() {
-        return text::too_long(stdout);
+    if nums.len() > MOST {
+        replay::too_long(out)?;
+        return Ok(true);
     }
-    if answered(stdout, line, text::first(nums, n), given, sizes)? {
-        return Ok(());
+    let name = line::name(text);
+    let nums = nums.as_slice();
+    if matrices::answer(alloc, out, name, nums, case)? {
+        return Ok(true);
     }
-    print(stdout, b"? unknown query\n")
-}
-
-fn answer_all(
-    stdout: &mut Out,
-    input: &[u8],
-    nums: &mut [u64],
-    given: &mut [u64],
-    sizes: &mut [usize],
-) -> io::Result<()> {
-    let mut from = 0;
-    while from < input.len() {
-        let to = text::find(input, from, b'\n');
-        answer(stdout, &input[from..to], nums, given, sizes)?;
-        if to == input.len() {
-            return Ok(());
-        }
-        from = to + 1;
+    if checks::answer(alloc, out, name, nums, case)? {
+        return Ok(true);
     }
-    Ok(())
-}
-
-// Answers all that is read.
-fn run(
-    stdout: &mut Out,
-    input: &[u8],
-    nums: &mut [u64],
-    given: &mut [u64],
-    sizes: &mut [usize],
-) -> io::Result<()> {
-    if input.len() == text::MOST {
-        return text::too_long(stdout);
-    }
-    answer_all(stdout, input, nums, given, sizes)
+    runs::answer(alloc, out, name, line::hash(text), nums, case)
 }
 
 fn main(rt: HostRuntime) -> io::Result<()> {
-    let mut stdout = BufWriter::new(rt.alloc(), rt.stdout())?;
-    let mut input = Vec::new(rt.alloc());
-    rt.reader().take(text::MOST as u64).read_to_end(&mut input)?;
-    let mut nums = [0u64; 1024];
-    let mut given = [0u64; 18432];
-    let mut sizes = [0usize; 18432];
-    run(&mut stdout, &input, &mut nums, &mut given, &mut sizes)?;
-    stdout.flush()
+    let alloc = rt.alloc();
+    let mut out = BufWriter::new(alloc, rt.stdout())?;
+    let input = replay::read(alloc, rt.reader())?;
+    let mut case = Case::new(alloc, Vec::new(alloc))?;
+    replay::replay(&mut out, input.as_slice(), |out, text| {
+        answer(alloc, out, text, &mut case)
+    })?;
+    out.flush()
 }
