@@ -138,12 +138,9 @@ pub(crate) fn answer(
     let data = strings.at(3);
     let step = match name {
         b"absorb" => Step::Bytes(data),
-        // absorbu64
-        b"bsorbu64" => Step::Number(line::at(nums, 3)),
-        // absorbdigest
-        b"rbdigest" => Step::Digest(hash(data)),
-        // absorbfield
-        b"orbfield" => Step::Elements(line::list_from(nums, 3, 0)),
+        b"absorbu64" => Step::Number(line::at(nums, 3)),
+        b"absorbdigest" => Step::Digest(hash(data)),
+        b"absorbfield" => Step::Elements(line::list_from(nums, 3, 0)),
         b"draw" => Step::Draw,
         b"drawvec" => Step::Draws(line::size(nums, 3)),
         _ => return Ok(false),

@@ -3,17 +3,9 @@
 use crate::show::MARK;
 use std::alloc::{AllocError, Global};
 
-// The first word.
-fn first_word(line: &[u8]) -> &[u8] {
-    line.split(|c| *c == b' ').next().unwrap_or(line)
-}
-
-// The name of the line's query: the last eight letters of its first word, without zeros in front.
+// The name of the line's query: its first word.
 pub fn name(line: &[u8]) -> &[u8] {
-    let word = first_word(line);
-    let last = word.last_chunk::<8>().map_or(word, |c| c.as_slice());
-    let zeros = last.iter().take_while(|c| **c == 0).count();
-    last.get(zeros..).unwrap_or(last)
+    line.split(|c| *c == b' ').next().unwrap_or(line)
 }
 
 // What a digit stands for, in either base; 0 where it is none.
@@ -81,7 +73,7 @@ fn byte(pair: &[u8]) -> u8 {
 // The 32 bytes that the letters spell behind the name, whatever they are.
 pub fn hash(line: &[u8]) -> [u8; 32] {
     let mut bytes = [0u8; 32];
-    let from = first_word(line).len().saturating_add(1);
+    let from = name(line).len().saturating_add(1);
     let letters = line.get(from..).unwrap_or(&[]);
     for (byte_at, pair) in bytes.iter_mut().zip(letters.chunks(2)) {
         *byte_at = byte(pair);
