@@ -1,14 +1,21 @@
 -- The checks one after the other: phase by phase, and what they find in all.
 -- Assumes nothing.
-use mathlib.Core.Path.{◌≡◌, refl, ap, ◌∙◌}
+use mathlib.Core.Path.{◌≡◌, refl, sym, ap, ◌∙◌}
 use mathlib.Core.Bool.{Bool, true, false, cond}
 use mathlib.Core.List.{List, [], ◌∷◌, ◌++◌}
 use Prim.Native.Nat.{ℕ, ◌<◌}
 use native.Mathlib.Omega.{arith}
 use borrow.Author.Tests.{ne_eqb}
+use Rattle.std.specs.Prelude.{Result}
+use Rattle.std.specs.Result.{IsErrAnd}
+use Rattle.std.proofs.lemmas.Result.{err_from_is_err_and}
+use Rattle.magnetar_field.specs.declared.refusal.Refusal.{Refusal}
+use Rattle.magnetar_field.specs.Number.{number}
+use Rattle.magnetar_layout.proofs.Refused.{number-positive}
+use Rattle.magnetar_protocol.specs.declared.first.Failure.{Failure}
 use Rattle.magnetar_protocol.specs.Checks.{Check, first_failure, first_stop}
 use Rattle.magnetar_protocol.proofs.Phases.{Numbered}
-use Rattle.magnetar_protocol.specs.Found.{Found, first_found, check, nothing, next_found, after}
+use Rattle.magnetar_protocol.specs.Found.{Found, failed, found, first_found, check, nothing, next_found, after}
 
 pub next-kept : (f : Found) (c : Check) → (f.code ≡ 0 → ⊥) → next_found f c ≡ f
 unfolding next_found
@@ -55,3 +62,24 @@ finds (c ∷ cs) h = after-cons nothing c cs ∙ go c.passes c.refusal c.events 
     go true n e p k = ap (λ (g : Found). after g cs) (next-pass nothing n e true refl refl) ∙ k
     go false n e p k =
         ap (λ (g : Found). after g cs) (next-fail nothing n e false refl refl) ∙ after_kept (record { code = n; events = e }) cs (λ z. omega arith)
+
+-- ---- answers of the code
+-- what a `?` hands out, where it met a check's failure, and where it met a refusal
+pub handed-found : {A : Type 0} (r : Result A Failure) (e : Failure) → IsErrAnd r (λ y. y ≡ e) → found r ≡ failed e
+handed-found r e h = let p = err_from_is_err_and r h in rw (p.1, p.2)
+
+pub handed-refusal : {A : Type 0} (r : Result A Failure) (e : Refusal) → IsErrAnd r (λ y. y ≡ record { check = e; events = 0 })
+    → found r ≡ record { code = number e; events = 0 }
+handed-refusal r e h = let p = err_from_is_err_and r h in rw (p.1, p.2)
+
+-- a failure stays
+pub failure-kept : (e : Failure) (cs : List Check) → after (failed e) cs ≡ failed e
+failure-kept e cs = let p = number-positive e.check in after_kept (failed e) cs (λ (z : number e.check ≡ 0). omega arith)
+
+-- where the front has found one, so have they all
+pub found-front : (cs ds : List Check) (e : Failure) → failed e ≡ after nothing cs → failed e ≡ after nothing (cs ++ ds)
+found-front cs ds e h = sym (after-append nothing cs ds ∙ rw (← h) (failure-kept e ds))
+
+-- where it has found none, the rest decides
+pub found-late : (cs ds : List Check) {f : Found} → nothing ≡ after nothing cs → f ≡ after nothing ds → f ≡ after nothing (cs ++ ds)
+found-late cs ds h e = e ∙ sym (after-append nothing cs ds ∙ rw (← h))

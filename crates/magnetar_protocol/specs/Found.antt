@@ -20,10 +20,14 @@ check n p e = record { refusal = n; passes = p; events = e }
 abbrev pub nothing : Found
 nothing = record { code = 0; events = 0 }
 
+-- a check's failure
+abbrev pub failed : Failure → Found
+failed f = record { code = number f.check; events = f.events }
+
 -- what an answer of the code has found
 abbrev pub found : {A : Type 0} → Result A Failure → Found
 found (Ok a) = nothing
-found (Err f) = record { code = number f.check; events = f.events }
+found (Err f) = failed f
 
 -- what is found with one more check: an earlier refusal stays
 unfoldable pub next_found : Found → Check → Found

@@ -1,5 +1,6 @@
 pub mod Shape
 pub mod Proof
+pub mod Rounds
 pub mod Draws
 pub mod Checks
 pub mod Found

@@ -3,4 +3,5 @@
 
 pub mod first;
 pub mod refusal;
+pub mod rounds;
 pub mod scratch;
