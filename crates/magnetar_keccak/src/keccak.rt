@@ -118,7 +118,7 @@ fn plane_at(a: &[u64; 25], d: &[u64; 5], y: usize) -> [u64; 5]
     ]
 }
 
-// Round i. The steps theta to chi go plane by plane.
+// Round i. The steps theta to chi go plane by plane. Lane by lane, since `copy_from_slice` of a plane makes a hash a third slower.
 fn round(a: [u64; 25], i: usize) -> [u64; 25]
     requires { i < 24 }
     ensures { result ≡ fips.round a i }
@@ -126,7 +126,10 @@ fn round(a: [u64; 25], i: usize) -> [u64; 25]
     let d = effects(&a);
     let mut b = [0u64; 25];
     for y in 0..5 {
-        b[5 * y..5 * y + 5].copy_from_slice(&plane_at(&a, &d, y));
+        let p = plane_at(&a, &d, y);
+        for x in 0..5 {
+            b[5 * y + x] = p[x];
+        }
     }
     b[0] ^= round_constant(i);
     b
@@ -138,6 +141,7 @@ pub fn permute(a: [u64; 25]) -> [u64; 25]
 {
     let mut b = a;
     for i in 0..24 {
+        // The call's array does not go straight into `b`: the checker has no proof rules for that.
         let c = round(b, i);
         b = c;
     }
