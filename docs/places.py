@@ -16,18 +16,22 @@ WIDE = 160
 PLACES = [
     ("1", "functions that answer a refusal's number", r"-> u32\b"),
     ("1", "fields and parameters that hold such a number", r"\b(code|z|n|y): u32\b"),
-    ("1", "variants of own enums that hold such a number", r"\bRefused\(u32\)"),
-    ("1", "own enums and structs of the shape of Option or Result",
-     r"(enum (Evaluated|Flag|Reading|Stray|RowCheck)|struct (DigestAnswer|TranscriptAnswer|DrawAnswer|Drawn|Valued|ScratchWords|Found|Round|Captured)) \{"),
-    ("2", "functions over one entry record or a slice of them", r"\b(es: &\[Entry\]|e: Entry)\b|\bes: &\[Entry\]"),
+    ("1", "enums and structs of the shape of Option or Result",
+     r"(enum (Evaluated|Flag|Reading|Stray)|struct (DigestAnswer|TranscriptAnswer|DrawAnswer|Drawn|Valued|ScratchWords|Found|Captured|Told|Said)) \{"
+     r"|\bRefused\(u32\)"),
+    ("1", "kinds as numbers: the name of a query as a number of its letters", r"^const [A-Z0-9]+: u64 = 0x[0-9a-f]{4,16};"),
+    ("2", "functions over one entry record or a slice of them", r"\bes: (&\[Entry\]|\[Entry; \d+\])|\be: Entry\b"),
+    ("2", "twins for a want of early return: the same unless a number is a refusal", r"^(pub |pub\(crate\) )?fn \w+_(unless|where)\b"),
     ("3", "loops that are a while", r"^\s*while\b"),
-    ("4", "calls of comparisons, choices and conversions by hand",
-     r"\b(gf128::equal|sizes::larger|sizes::least|std::num::wrapping_\w+|rotate_left\(|wide\(|half_at\(|byte_of\(|fe_byte\()"),
+    ("4", "comparisons, choices and conversions by hand",
+     r"\b(gf128::equal|sizes::larger|sizes::least|std::num::wrapping_\w+|rotate_left\(|wide\(|wide_byte\(|half_at\(|byte_of\(|fe_byte\(|same\w*\()"),
     ("5", "parameter lists with the four slices of a matrix", r"\brow: &\[usize\]"),
     ("5", "parameter lists with the sizes m, q, rb, rf", r"\brf: usize\b"),
-    ("5", "parameter lists with the logarithms s, b, f, c", r"\bf: usize,|\bf: usize\)|, f: usize"),
-    ("6", "buffers of bytes or words with a length beside them", r"\b(len|used|filled|count|at): usize\b"),
-    ("7", "flags that say which of two things to do", r"\b(bin|go|inside): bool\b"),
+    ("5", "parameter lists with the logarithms s, b, f, c", r"(^|\s)f: usize\b.*c: usize|^\s+f: usize,$"),
+    ("6", "parallel arrays: fields and locals of one that is lent", r"\b(row|col): &'?\w* ?\[usize\]"),
+    ("6", "fixed buffers of a program, of which a part is used", r"\[(0|MARK|false)(u8|u64|usize)?; \d{3,}\]"),
+    ("7", "steps of a switch on what to run", r"\bif op == [A-Z]"),
+    ("7", "flags that say which of two things to do", r"\b(bin|go|hex): bool\b"),
 ]
 
 
