@@ -3,9 +3,37 @@
 use crate::show::MARK;
 use std::alloc::{AllocError, Global};
 
-// The name of the line's query: its first word.
-pub fn name(line: &[u8]) -> &[u8] {
+// The names of more than eight letters.
+const LONG: [&[u8]; 6] = [
+    b"absorbdigest",
+    b"absorbfield",
+    b"absorbu64",
+    b"absorbwords",
+    b"partslens",
+    b"rawdrawvec",
+];
+
+// The first word.
+fn first_word(line: &[u8]) -> &[u8] {
     line.split(|c| *c == b' ').next().unwrap_or(line)
+}
+
+// The last eight letters, without zeros in front.
+fn last_letters(word: &[u8]) -> &[u8] {
+    let last = word.last_chunk::<8>().map_or(word, |c| c.as_slice());
+    let zeros = last.iter().take_while(|c| **c == 0).count();
+    last.get(zeros..).unwrap_or(last)
+}
+
+// The name of the line's query: the last eight letters of its first word tell it.
+pub fn name(line: &[u8]) -> &[u8] {
+    let letters = last_letters(first_word(line));
+    for long in LONG {
+        if last_letters(long) == letters {
+            return long;
+        }
+    }
+    letters
 }
 
 // What a digit stands for, in either base; 0 where it is none.
@@ -73,7 +101,7 @@ fn byte(pair: &[u8]) -> u8 {
 // The 32 bytes that the letters spell behind the name, whatever they are.
 pub fn hash(line: &[u8]) -> [u8; 32] {
     let mut bytes = [0u8; 32];
-    let from = name(line).len().saturating_add(1);
+    let from = first_word(line).len().saturating_add(1);
     let letters = line.get(from..).unwrap_or(&[]);
     for (byte_at, pair) in bytes.iter_mut().zip(letters.chunks(2)) {
         *byte_at = byte(pair);
