@@ -3,7 +3,6 @@ pub mod StepLaws
 pub mod ToldLaws
 pub mod RuleLaws
 pub mod RangeLaws
-pub mod EndLaws
 pub mod MaskLaws
 pub mod StrayLaws
 pub mod LoginLaws

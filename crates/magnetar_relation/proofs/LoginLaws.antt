@@ -3,53 +3,23 @@
 use mathlib.Core.Path.{◌≡◌, refl, sym, ap, ◌∙◌}
 use mathlib.Core.Bool.{Bool, true, false}
 use mathlib.Core.List.{List, [], ◌∷◌}
-use Prim.Native.Nat.{ℕ, zero, suc, ◌+◌, ◌-◌, ◌*◌, ◌/◌, ◌^◌, ◌≤◌, ◌<◌, min}
-use native.Mathlib.Nat.{mul-zero, zero-mul, suc-mul, mul-le-mul_left, mul-le-mul_right, le_trans, div-lt_iff_lt-mul}
+use Prim.Native.Nat.{ℕ, zero, suc, ◌+◌, ◌-◌, ◌*◌, ◌^◌, ◌≤◌, ◌<◌, min}
+use native.Mathlib.Nat.{zero-mul, suc-mul}
 use native.Mathlib.Omega.{arith}
-use lib.Dec.{ltb, leb}
-use lib.ListN.{length, get_or, take, drop, length-drop, drop_of_length-le}
+use lib.Dec.{leb}
+use lib.ListN.{length, get_or, take, drop, drop_of_length-le}
 use lib.Seq.{take_all, take-nil}
-use borrow.Author.Tests.{ltb-true, ltb-false, leb-true, leb-false}
+use borrow.Author.Tests.{leb-true, leb-false}
 use Rattle.magnetar_matrix.specs.Packed.{packed_bit, login_part, login_words, public_part, public_words, z_of}
 use Rattle.magnetar_r1cs.proofs.Split.{z-bit, z-public}
-use Rattle.magnetar_relation.proofs.RangeLaws.{take-cut, drop-cut}
-
--- ---- where a login's words start
-pub start_fits : (u k : ℕ) → u ≤ 4294967295 → k ≤ 4294967295 → u * k < 2 ^ 64
-start_fits u k h l =
-    let e : u * k ≤ 18446744065119617025 = le_trans (mul-le-mul_left u l) (mul-le-mul_right 4294967295 h) in
-    omega (arith, e)
-
-pub start_none : (u k n : ℕ) → k ≡ 0 → 0 ≡ min (u * k) n
-start_none u k n e = let z : u * k ≡ 0 = ap (λ (i : ℕ). u * i) e ∙ mul-zero u in omega (arith, z)
-
-positive : (k : ℕ) → (k ≡ 0 → ⊥) → 0 < k
-positive zero h = absurd (h refl)
-positive (suc k) h = omega arith
-
-module _ (u k n : ℕ) (h : k ≡ 0 → ⊥) where
-  pub start-past : n / k < u → n ≡ min (u * k) n
-  start-past l = let m : n < u * k = (div-lt_iff_lt-mul {k = k} {x = n} {y = u} (positive k h)).0 l in omega (arith, m)
-
-  pub start-in : u ≤ n / k → u * k ≤ n
-  start-in l = go (ltb n (u * k)) refl
-    where
-      go : (b : Bool) → ltb n (u * k) ≡ b → u * k ≤ n
-      go false t = ltb-false n (u * k) t
-      go true t =
-          let m : n / k < u = (div-lt_iff_lt-mul {k = k} {x = n} {y = u} (positive k h)).1 (ltb-true n (u * k) t) in
-          absurd (omega (arith, l, m))
+use Rattle.magnetar_relation.proofs.RangeLaws.{drop-cut, range-is}
 
 -- ---- a login's words, its bits, and its z
 -- the part from a to b, cut where the words end, is that of login u with k words
-cut-part : (ws : List ℕ) (u k a b : ℕ) → a ≡ min (u * k) (length ws) → b ≡ a + min k (length ws - a) → take (b - a) (drop a ws) ≡ take k (drop (u * k) ws)
-cut-part ws u k a b f g =
-    let d : b - a ≡ min k (length (drop a ws)) = rw length-drop (omega (arith, g)) in
-    let p : take (b - a) (drop a ws) ≡ take k (drop a ws) = rw d (take-cut k (drop a ws)) in
-    let r : drop a ws ≡ drop (u * k) ws = ap (λ (i : ℕ). drop i ws) f ∙ drop-cut (u * k) ws in
-    p ∙ ap (take k) r
+cut-part : (ws : List ℕ) (u k a b : ℕ) → a ≡ min (u * k) (length ws) → b ≡ min (a + k) (length ws) → take (b - a) (drop a ws) ≡ take k (drop (u * k) ws)
+cut-part ws u k a b f g = range-is ws a k b g ∙ ap (take k) (ap (λ (i : ℕ). drop i ws) f ∙ drop-cut (u * k) ws)
 
-pub part_cut : (w : ℕ) (ws : List ℕ) (u k a b : ℕ) → k ≡ login_words w → a ≡ min (u * k) (length ws) → b ≡ a + min k (length ws - a)
+pub part_cut : (w : ℕ) (ws : List ℕ) (u k a b : ℕ) → k ≡ login_words w → a ≡ min (u * k) (length ws) → b ≡ min (a + k) (length ws)
     → take (b - a) (drop a ws) ≡ login_part w ws u
 unfolding login_part
 part_cut w ws u k a b e f g = cut-part ws u k a b f g ∙ rw e
@@ -76,7 +46,7 @@ capped w x u k e = go (leb w (length x + 2)) refl
         rw f
     go false t = let l : length x + 2 < w = leb-false w (length x + 2) t in all-or-none x k (public_words w) u (omega arith) (omega arith)
 
-pub columns-cut : (w : ℕ) (x : List ℕ) (u k a b : ℕ) → k ≡ public_words (min w (length x + 2)) → a ≡ min (u * k) (length x) → b ≡ a + min k (length x - a)
+pub columns-cut : (w : ℕ) (x : List ℕ) (u k a b : ℕ) → k ≡ public_words (min w (length x + 2)) → a ≡ min (u * k) (length x) → b ≡ min (a + k) (length x)
     → take (b - a) (drop a x) ≡ public_part w x u
 columns-cut w x u k a b e f g = cut-part x u k a b f g ∙ capped w x u k e
 

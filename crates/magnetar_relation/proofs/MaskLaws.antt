@@ -285,5 +285,5 @@ module _ (w : ℕ) (ns : List ℕ) (e : layout_refusal w ns ≡ 0) where
 
   pub built : (ps : List ℕ) → length ps ≡ 64 → take (length ns) (build_out w ns ps) ≡ offsets ns
   built ps h =
-      let b : 0 ≡ build_refusal w ns ps = build-is w ns ps 0 0 (sym e) (enough (length ps) (length ns) (rw h few)) in
+      let b : 0 ≡ build_refusal w ns ps = rw (build-is, e) (enough (length ps) (length ns) (rw h few)) in
       rw (← b) (take_at (offsets ns) (drop (length ns) ps) (length ns) (offsets-length ns))

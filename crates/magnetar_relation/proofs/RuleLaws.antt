@@ -2,51 +2,26 @@
 -- Assumes nothing.
 use mathlib.Core.Path.{◌≡◌, refl, sym, ap, ◌∙◌}
 use mathlib.Core.Bool.{Bool, true, not}
-use mathlib.Core.List.{List, [], ◌∷◌, ◌++◌}
-use Prim.Native.Nat.{ℕ, zero, suc, ◌*◌, ◌/◌, ◌≤◌, ◌<◌}
-use native.Mathlib.Nat.{div-lt_iff_lt-mul}
+use mathlib.Core.List.{List, [], ◌∷◌, ◌++◌, map}
+use Prim.Native.Nat.{ℕ, zero, suc, ◌*◌, ◌≤◌}
 use native.Mathlib.Omega.{arith}
 use lib.Dec.{eqb, ltb}
 use lib.ListN.{length}
-use borrow.Author.Tests.{ltb-true, ltb-false, eqb-true, not-false}
-use Rattle.magnetar_layout.specs.Tests.{Tests, or_refuse, first_refusal, is_size, Sized}
-use Rattle.magnetar_layout.proofs.FirstRefusal.{note-kept, note-clear, first-refusal-clear, first-refusal-append, first-refusal-kept, first-refusal-rest}
+use borrow.Author.Tests.{ltb-false, eqb-true, not-false}
+use Rattle.magnetar_layout.specs.Tests.{Tests, or_refuse, first_refusal, Sized}
+use Rattle.magnetar_layout.proofs.FirstRefusal.{note-kept, first-refusal-clear, first-refusal-append, first-refusal-kept, first-refusal-rest}
 use Rattle.magnetar_layout.proofs.SizeLaws.{not-bad}
 use Rattle.magnetar_matrix.specs.Matrix.{Entry}
 use Rattle.magnetar_matrix.specs.Lent.{entries_of}
-use Rattle.magnetar_r1cs.proofs.Ranges.{entries-length}
+use Rattle.magnetar_matrix.specs.Numbers.{Numbers, entries_by, counts, record_numbers, entry_of}
+use Rattle.magnetar_matrix.specs.declared.entries.Entry as code
+use Rattle.magnetar_matrix.proofs.EntryLists.{entries-length, records_are, map-length}
 use Rattle.magnetar_relation.specs.declared.shapes.SystemShape.{SystemShape}
 use Rattle.magnetar_relation.specs.declared.shapes.Shapes.{Shapes}
-use Rattle.magnetar_relation.specs.Rules.{rules, rules_over, in_relation, entries_in, system_at}
+use Rattle.magnetar_relation.specs.Rules.{rules, rules_by, rules_over, in_relation, entries_in, system_at}
 use Rattle.magnetar_relation.specs.RuleTests.{most_tests, number_tests, shape_tests, total, rule_tests_by, rule_tests, given}
 use Rattle.magnetar_relation.specs.EntryWalks.{lies_at, every_from}
 use Rattle.magnetar_relation.proofs.ToldLaws.{told-six}
-
--- ---- one test more
--- a number stays
-pub number-stays : (y e n : ℕ) (b : Bool) → y ≡ e → (y ≡ 0 → ⊥) → y ≡ or_refuse n b e
-number-stays y e n b f h = sym (rw (← f) (note-kept n b y h))
-
--- after none the rest decides
-pub none_before : (x y e n : ℕ) (b : Bool) → x ≡ or_refuse n b 0 → y ≡ e → y ≡ 0 → x ≡ or_refuse n b e
-none_before x y e n b g f h = rw (← f, h) g
-
--- the first of three tests of rows
-pub rows-passed : (z a : ℕ) (b c : Bool) → or_refuse 4 c (or_refuse 4 b (or_refuse 4 (not (is_size 1 65536 a)) z)) ≡ 0 → Sized 1 65536 a
-rows-passed z a b c e =
-    let p = note-clear 4 c _ refl e in
-    let q = note-clear 4 b _ refl p.0 in
-    not-bad (note-clear 4 (not (is_size 1 65536 a)) z refl q.0).1
-
--- a quotient instead of a product
-pub over : (q n b : ℕ) → 0 < n → ltb (b / n) q ≡ ltb b (q * n)
-over q n b h = go (ltb (b / n) q) refl (ltb b (q * n)) refl
-  where
-    go : (s : Bool) → ltb (b / n) q ≡ s → (t : Bool) → ltb b (q * n) ≡ t → ltb (b / n) q ≡ ltb b (q * n)
-    go true s true t = s ∙ sym t
-    go Bool.false s Bool.false t = s ∙ sym t
-    go true s Bool.false t = absurd (omega (arith, (div-lt_iff_lt-mul {k = n} {x = b} {y = q} h).0 (ltb-true (b / n) q s), ltb-false b (q * n) t))
-    go Bool.false s true t = absurd (omega (arith, (div-lt_iff_lt-mul {k = n} {x = b} {y = q} h).1 (ltb-true b (q * n) t), ltb-false (b / n) q s))
 
 -- ---- what passed tests say
 same : (a b : ℕ) → not (eqb a b) ≡ Bool.false → a ≡ b
@@ -163,17 +138,16 @@ module _ (m q : ℕ) (s : Shapes) (r c l h : ℕ) (es : List Entry) (long : r �
   unfolding rule_tests_by in_relation
   told b e = late first 7 (not b) (not inside) (λ f. ap not (e ∙ told-six s es (counted f)))
 
-pub rules-told : (m q : ℕ) (ns : List ℕ) (s : Shapes) (row col lo hi : List ℕ) (b : Bool) (z : ℕ) → b ≡ every_from (lies_at s) 0 (entries_of row col lo hi)
-    → z ≡ first_refusal 0 (rule_tests_by m q s (length row ∷ length col ∷ length lo ∷ length hi ∷ []) b) → z ≡ first_refusal 0 (rule_tests (rules m q ns s row col lo hi))
+pub rules-told : (m q : ℕ) (ns : List ℕ) (s : Shapes) (N : Numbers) (b : Bool) (z : ℕ) → b ≡ every_from (lies_at s) 0 (entries_by N)
+    → z ≡ first_refusal 0 (rule_tests_by m q s (counts N) b) → z ≡ first_refusal 0 (rule_tests (rules_by m q ns s N))
 unfolding in_relation
-rules-told m q ns s row col lo hi b z e f =
-    f ∙ told m q s (length row) (length col) (length lo) (length hi) (entries_of row col lo hi)
-    (λ i j k n. entries-equal row col lo hi (j ∙ sym i) (k ∙ sym i) (n ∙ sym i) ∙ i) b e
+rules-told m q ns s N b z e f =
+    f ∙ told m q s (length N.row) (length N.col) (length N.lo) (length N.hi) (entries_by N)
+    (λ i j k n. entries-equal N.row N.col N.lo N.hi (j ∙ sym i) (k ∙ sym i) (n ∙ sym i) ∙ i) b e
 
-pub rules-told-over : (m q : ℕ) (ns : List ℕ) (s : Shapes) (es : List Entry) (b : Bool) (z : ℕ) → b ≡ every_from (lies_at s) 0 es
-    → z ≡ first_refusal 0 (rule_tests_by m q s (length es ∷ length es ∷ length es ∷ length es ∷ []) b) → z ≡ first_refusal 0 (rule_tests (rules_over m q ns s es))
-unfolding in_relation
-rules-told-over m q ns s es b z e f = f ∙ told m q s (length es) (length es) (length es) (length es) es (λ i j k n. i) b e
+-- the numbers of records give the relation that is lent as records
+pub rules-records : (m q : ℕ) (ns : List ℕ) (s : Shapes) (es : List code.Entry) → rules_by m q ns s (record_numbers es) ≡ rules_over m q ns s (map entry_of es)
+rules-records m q ns s es = simp (records_are, map-length)
 
 -- the segment lengths do not matter
 pub lengths-free : (m q : ℕ) (ns : List ℕ) (s : Shapes) (row col lo hi : List ℕ) → rule_tests (rules m q [] s row col lo hi) ≡ rule_tests (rules m q ns s row col lo hi)

@@ -2,7 +2,7 @@
 -- Assumes nothing.
 use mathlib.Core.Path.{◌≡◌, refl, sym, ap, ◌∙◌}
 use mathlib.Core.Bool.{Bool, true, false, cond, not, ◌||◌, false≢true}
-use mathlib.Core.List.{List, ◌++◌}
+use mathlib.Core.List.{List, [], ◌++◌}
 use Prim.Native.Nat.{ℕ, zero, suc, ◌+◌, ◌-◌, ◌*◌, ◌/◌, ◌%◌, ◌^◌, ◌≤◌, ◌<◌, min}
 use native.Mathlib.Nat.{zero-mul, mul-zero, one-mul, zero-div}
 use native.Mathlib.Omega.{arith}
@@ -11,10 +11,17 @@ use lib.Bits.{bit_and}
 use lib.Count.{count_trailing_zeros}
 use lib.ListN.{length, get_or, drop, length-take}
 use borrow.Author.Tests.{eq-eqb, ne_eqb, ltb-true, ltb-false, lt-ltb, le-ltb, not-false}
+use Rattle.std.specs.Prelude.{Option, Some, None, Result, Ok, Err, unwrap_or}
+use Rattle.std.specs.Result.{IsErrAnd}
+use Rattle.magnetar_field.specs.declared.refusal.Refusal.{Refusal}
+use Rattle.magnetar_field.specs.Number.{number, number_of}
+use Rattle.magnetar_field.proofs.Handed.{handed}
 use Rattle.magnetar_layout.specs.Layout.{outside}
 use Rattle.magnetar_layout.specs.Tests.{Tests, first_refusal, is_size, most_columns, size_tests, packed_tests, layout_tests}
 use Rattle.magnetar_layout.specs.Entries.{layout_refusal}
-use Rattle.magnetar_layout.proofs.FirstRefusal.{first-refusal-front, first-refusal-late, first-refusal-append, first-refusal-clear, front-none, rest-none}
+use Rattle.magnetar_layout.proofs.Passing.{out, out-front, late, cleared}
+use Rattle.magnetar_layout.proofs.Refused.{number-positive}
+use Rattle.magnetar_layout.proofs.SizeLaws.{not-bad}
 use Rattle.magnetar_layout.proofs.Laid.{layout-own}
 use Rattle.magnetar_matrix.specs.Batch.{Batch}
 use Rattle.magnetar_matrix.specs.Packed.{bit_at, packed_bit, login_words, login_part, unpacked}
@@ -24,9 +31,8 @@ use Rattle.magnetar_matrix.proofs.LoginParts.{bit-unpacked}
 use Rattle.magnetar_matrix.proofs.SetBits.{Lowest, lowest, bit_past}
 use Rattle.magnetar_matrix.proofs.WordBits.{bit-and}
 use Rattle.magnetar_matrix.proofs.FirstRow.{Below, first-ext, first-is, first-end}
-use Rattle.magnetar_relation.specs.RuleTests.{given}
-use Rattle.magnetar_relation.proofs.RuleLaws.{given_is}
-use Rattle.magnetar_relation.specs.Stray.{searched, stray_refusal, outside_bit, Masks, NonePast, apart}
+use Rattle.magnetar_relation.specs.declared.stray.StrayBit.{StrayBit}
+use Rattle.magnetar_relation.specs.Stray.{StrayAnswer, stray_answer, stray_outcome, searched, stray_refusal, outside_bit, Masks, NonePast, apart}
 use Rattle.magnetar_relation.specs.Stray.StrayAnswer.{clear, bit}
 
 -- ---- two words
@@ -101,15 +107,15 @@ module _ (ms ws : List ℕ) (k v : ℕ) (ev : v ≡ bit_and (get_or ws k 0) (get
             let l = ltb-false y (64 * k) c in
             word-apart y l (omega (arith, in-word, h)) ∙ eq-eqb _ 0 (low.below (y - 64 * k) (omega (arith, h, l)))
 
-    inside : at < w
-    inside = go (ltb at w) refl
+    pub first-inside : at < w
+    first-inside = go (ltb at w) refl
       where
         go : (c : Bool) → ltb at w ≡ c → at < w
         go true c = ltb-true at w c
         go false c = absurd (false≢true (sym common ∙ unmarked at (none at (ltb-false at w c))))
 
     pub first-common : at ≡ first_not (apart ms ws) w
-    first-common = first-is (apart ms ws) w at inside lower common
+    first-common = first-is (apart ms ws) w at first-inside lower common
 
 -- no word has one
 pub none-common : (ms ws : List ℕ) (k w : ℕ) → length ws ≤ k → Below (apart ms ws) (64 * k) → w ≡ first_not (apart ms ws) w
@@ -184,33 +190,46 @@ module _ (q w : ℕ) (ns ws ms : List ℕ) (mask : Masks w ns ms) where
       let n : q ≡ stray_login q w ns batch = first-end (λ v. eqb (stray_column w ns batch v) w) q u e c in
       rw (← n, eq-eqb q q refl)
 
+-- nothing was found
+pub none-found : (r : Option ℕ) (w y : ℕ) → ((x : ℕ) → r ≡ Some x → ⊥) → unwrap_or r w ≡ y → w ≡ y
+none-found None w y n e = e
+none-found (Some x) w y n e = absurd (n x refl)
+
 -- ---- the entry
 module _ (q w : ℕ) (ns ws : List ℕ) where
   abbrev pub sizes : Tests
-  sizes = size_tests (2 * w) q
+  sizes = size_tests (2 * w) q ++ packed_tests w q ws
 
-  -- 2, then what the layout's refusal z says
-  pub stray-by : (n₁ n₂ n₃ z : ℕ) → n₁ ≡ first_refusal 0 sizes → n₁ ≡ 0 → z ≡ layout_refusal w ns → n₂ ≡ first_refusal 0 (packed_tests w q ws)
-      → n₃ ≡ first_refusal n₂ (given z) → n₃ ≡ stray_refusal q w ns ws
+  -- the groups of tests, and what the layout's say by themselves
+  groups : stray_refusal q w ns ws ≡ first_refusal 0 (sizes ++ layout_tests w ns)
   unfolding stray_refusal
-  stray-by n₁ n₂ n₃ z e₁ f ez e₂ e₃ =
-      let c = (first-refusal-clear 0 sizes refl (sym e₁ ∙ f)).1.0 in
+  groups = refl
+
+  laid : 0 ≡ first_refusal 0 sizes → layout_refusal w ns ≡ first_refusal 0 (layout_tests w ns)
+  laid e =
+      let c = (cleared sizes refl e).0 in
       let d : 2 * w / 2 ≡ w = omega arith in
-      let l : z ≡ first_refusal 0 (layout_tests w ns) = ez ∙ (rw d at (layout-own (2 * w) ns (not-false (is_size 2 most_columns (2 * w)) c))) in
-      first-refusal-late sizes (packed_tests w q ws ++ layout_tests w ns) n₁ n₃ e₁ f
-      (e₃ ∙ (ap (λ (a : ℕ). first_refusal a (given z)) e₂ ∙ (given_is (layout_tests w ns) z (first_refusal 0 (packed_tests w q ws)) l
-      ∙ sym (first-refusal-append 0 (packed_tests w q ws) (layout_tests w ns)))))
+      rw d at (layout-own (2 * w) ns (not-false (is_size 2 most_columns (2 * w)) c))
 
-  pub stray-early : (n : ℕ) → n ≡ first_refusal 0 sizes → (n ≡ 0 → ⊥) → n ≡ stray_refusal q w ns ws
-  unfolding stray_refusal
-  stray-early n e h = first-refusal-front sizes (packed_tests w q ws ++ layout_tests w ns) n e h
+  -- what a `?` hands out
+  module _ (r : Result (Option StrayBit) Refusal) (e : Refusal) (h : IsErrAnd r (λ y. y ≡ e)) where
+    told : number_of r ≡ stray_refusal q w ns ws → stray_answer r ≡ stray_outcome q w ns ws
+    told f = go r (handed r e h) f
+      where
+        go : (r : Result (Option StrayBit) Refusal) → number_of r ≡ number e → number_of r ≡ stray_refusal q w ns ws → stray_answer r ≡ stray_outcome q w ns ws
+        go (Ok b) k f = let p = number-positive e in absurd (omega arith)
+        go (Err y) k f = let p = number-positive y in rw (← f, ne_eqb (number y) 0 (λ z. omega arith))
 
-  -- where nothing is refused, the layout is not
-  pub layout-passed : stray_refusal q w ns ws ≡ 0 → layout_refusal w ns ≡ 0
-  unfolding stray_refusal
-  layout-passed e =
-      let more = packed_tests w q ws ++ layout_tests w ns in
-      let c = (first-refusal-clear 0 sizes refl (front-none sizes more e)).1.0 in
-      let d : 2 * w / 2 ≡ w = omega arith in
-      (rw d at (layout-own (2 * w) ns (not-false (is_size 2 most_columns (2 * w)) c)))
-      ∙ rest-none (packed_tests w q ws) (layout_tests w ns) (rest-none sizes more e)
+    pub stray-early : number e ≡ first_refusal 0 sizes → stray_answer r ≡ stray_outcome q w ns ws
+    stray-early f = told (out-front sizes (layout_tests w ns) r e h f ∙ sym groups)
+
+    pub stray-late : 0 ≡ first_refusal 0 sizes → number e ≡ layout_refusal w ns → stray_answer r ≡ stray_outcome q w ns ws
+    stray-late z f = told (late sizes (layout_tests w ns) z (out (layout_tests w ns) [] r e h (f ∙ laid z)) ∙ sym groups)
+
+  -- where nothing is refused
+  module _ (z : 0 ≡ first_refusal 0 sizes) where
+    pub half-most : w ≤ 32768
+    half-most = let k = not-bad (cleared sizes refl z).0 in omega (arith, k.high)
+
+    pub stray-none : 0 ≡ layout_refusal w ns → (a : StrayAnswer) → a ≡ searched q w ns (unpacked q w ws) → a ≡ stray_outcome q w ns ws
+    stray-none f a h = let e : 0 ≡ stray_refusal q w ns ws = late sizes (layout_tests w ns) z (f ∙ laid z) ∙ sym groups in rw (← e) h

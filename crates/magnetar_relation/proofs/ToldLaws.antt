@@ -3,66 +3,40 @@
 use mathlib.Core.Path.{◌≡◌, refl, sym, ap, ◌∙◌}
 use mathlib.Core.Bool.{Bool, true, false, cond, ◌&&◌}
 use mathlib.Core.List.{List, [], ◌∷◌, ◌++◌}
-use Prim.Native.Nat.{ℕ, zero, suc, ◌+◌, ◌-◌, ◌<◌, ◌≤◌, min}
+use Prim.Native.Nat.{ℕ, zero, suc, ◌+◌, ◌-◌, ◌<◌, ◌≤◌}
 use native.Mathlib.Omega.{arith}
 use native.Mathlib.Nat.{zero-add}
 use native.Mathlib.Numerals.{add-one}
-use lib.ListN.{length, get_or, take, drop, length-drop, take-append-drop, drop_of_length-le}
+use lib.ListN.{length, take, drop, length-drop, take-append-drop}
 use lib.Seq.{drop-drop, length-take-le, take_all}
 use lib.Dec.{ltb, leb}
 use borrow.Author.Tests.{lt-ltb, le-ltb, le-leb, lt-leb}
 use Rattle.magnetar_layout.specs.Every.{every}
 use Rattle.magnetar_matrix.specs.Matrix.{Entry}
-use Rattle.magnetar_matrix.specs.Lent.{entry, entries_of}
-use Rattle.magnetar_r1cs.proofs.Ranges.{entries-length, entry_in}
 use Rattle.magnetar_relation.specs.declared.shapes.Shape.{Shape}
 use Rattle.magnetar_relation.specs.declared.shapes.Shapes.{Shapes}
 use Rattle.magnetar_relation.specs.Rules.{entries_in, system_at, lies_in, in_system}
 use Rattle.magnetar_relation.specs.RuleTests.{total}
 use Rattle.magnetar_relation.specs.EntryWalks.{shape_in, shape_at, lies_at, every_from, fold_entries, fold_entries_within}
 
--- ---- how many entries four slices hold
-abbrev pub held : (r c l h : List ℕ) → ℕ
-held r c l h = min (min (length r) (length c)) (min (length l) (length h))
-
-pub entries-held : (r c l h : List ℕ) → length (entries_of r c l h) ≡ held r c l h
-entries-held r c l h = entries-length r c l h
-
-pub entry-held : (r c l h : List ℕ) (i : ℕ) → i < length r → i < length c → i < length l → i < length h
-    → drop i (entries_of r c l h) ≡ entry (get_or r i 0) (get_or c i 0) (get_or l i 0) (get_or h i 0) ∷ drop (i + 1) (entries_of r c l h)
-entry-held r c l h i a b d e = entry_in r c l h i (rw (entries-length r c l h) (omega arith))
-
--- ---- a flag that goes round
+-- ---- a loop that stops at the first entry of which the test does not hold; what it leaves of the list is es
 and_assoc : (a b c : Bool) → ((a && b) && c) ≡ (a && (b && c))
 and_assoc true b c = refl
 and_assoc false b c = refl
 
-and-true : (a : Bool) → (a && true) ≡ a
-and-true true = refl
-and-true false = refl
+module _ (p : ℕ → Entry → Bool) (i : ℕ) (whole : Bool) (es : List Entry) (inv : every_from p i es ≡ whole) where
+  module _ (e : Entry) (rest : List Entry) (next : es ≡ e ∷ rest) where
+    pub told-more : p i e ≡ true → every_from p (i + 1) rest ≡ whole
+    unfolding every_from
+    told-more h = let k = rw next at inv in rw add-one (rw h at k)
 
-module _ (p : ℕ → Entry → Bool) (i : ℕ) (b : Bool) where
-  pub carried : (e : Entry) (es : List Entry) (r r' : Bool) → r' ≡ (r && p i e) → (r && every_from p i (e ∷ es)) ≡ b → (r' && every_from p (i + 1) es) ≡ b
+    pub told-stop : p i e ≡ false → false ≡ whole
+    unfolding every_from
+    told-stop h = let k = rw next at inv in rw h at k
+
+  pub told-end : es ≡ [] → true ≡ whole
   unfolding every_from
-  carried e es r r' q h = rw (q, add-one i) (and_assoc r (p i e) (every_from p (suc i) es) ∙ h)
-
-  pub carried-end : (r : Bool) → (r && every_from p i []) ≡ b → r ≡ b
-  unfolding every_from
-  carried-end r h = sym (and-true r) ∙ h
-
--- ---- the entries that four slices hold, as far as each of them reaches
-module _ (p : ℕ → Entry → Bool) (b : Bool) where
-  -- one turn of a loop that carries the flag
-  pub told_more : (r c l h : List ℕ) (i : ℕ) (a a' : Bool) → i < length r → i < length c → i < length l → i < length h
-      → a' ≡ (a && p i (entry (get_or r i 0) (get_or c i 0) (get_or l i 0) (get_or h i 0)))
-      → (a && every_from p i (drop i (entries_of r c l h))) ≡ b → (a' && every_from p (i + 1) (drop (i + 1) (entries_of r c l h))) ≡ b
-  told_more r c l h i a a' u v w x q e =
-      carried p i b (entry (get_or r i 0) (get_or c i 0) (get_or l i 0) (get_or h i 0)) (drop (i + 1) (entries_of r c l h)) a a' q
-      (ap (λ (es : List Entry). a && every_from p i es) (sym (entry-held r c l h i u v w x)) ∙ e)
-
-  pub told-end : (r c l h : List ℕ) (i : ℕ) (a : Bool) → held r c l h ≤ i → (a && every_from p i (drop i (entries_of r c l h))) ≡ b → a ≡ b
-  told-end r c l h i a u e =
-      carried-end p i b a (ap (λ (es : List Entry). a && every_from p i es) (sym (drop_of_length-le (entries_of r c l h) {i = i} (rw (entries-held r c l h) u))) ∙ e)
+  told-end h = rw h at inv
 
 -- ---- entries told their index are those of six matrices, one behind the other
 add-zero : (i : ℕ) → i + 0 ≡ i
@@ -242,29 +216,12 @@ within-from g a b (suc d) k i (e ∷ es) t u v = within-skip g a b i e es t (ome
 pub within-is : (g : Entry → List ℕ → List ℕ) (a k : ℕ) (es : List Entry) (t : List ℕ) → fold_entries_within g a (a + k) 0 es t ≡ fold_entries g (take k (drop a es)) t
 within-is g a k es t = within-from g a (a + k) a k 0 es t (omega arith) refl
 
--- ---- the same for entries in four slices, from a to b
-abbrev pub range_of : (r c l h : List ℕ) → ℕ → ℕ → List Entry
-range_of r c l h a b = take (b - a) (drop a (entries_of r c l h))
+-- ---- a loop over the entries, of which es is what it leaves
+module _ (g : Entry → List ℕ → List ℕ) (whole : List ℕ) (es : List Entry) (t : List ℕ) (inv : fold_entries g es t ≡ whole) where
+  pub fold-more : (e : Entry) (rest : List Entry) (t' : List ℕ) → es ≡ e ∷ rest → t' ≡ g e t → fold_entries g rest t' ≡ whole
+  unfolding fold_entries
+  fold-more e rest t' next h = let k = rw next at inv in rw h k
 
-module _ (g : Entry → List ℕ → List ℕ) (r c l h : List ℕ) (b : ℕ) (whole : List ℕ) where
-  -- one turn of a loop over them
-  pub range-more : (i : ℕ) (t t' : List ℕ) → i < b → i < length r → i < length c → i < length l → i < length h
-      → fold_entries g (range_of r c l h i b) t ≡ whole
-      → t' ≡ g (entry (get_or r i 0) (get_or c i 0) (get_or l i 0) (get_or h i 0)) t → fold_entries g (range_of r c l h (i + 1) b) t' ≡ whole
-  range-more i t t' u u₁ u₂ u₃ u₄ inv e =
-      let n : b - i ≡ suc (b - (i + 1)) = omega arith in
-      let x = entry (get_or r i 0) (get_or c i 0) (get_or l i 0) (get_or h i 0) in
-      rw e (walked_step g (b - (i + 1)) x (drop (i + 1) (entries_of r c l h)) t)
-      ∙ (ap (λ (k : ℕ). fold_entries g (take k (x ∷ drop (i + 1) (entries_of r c l h))) t) (sym n)
-      ∙ (ap (λ (es : List Entry). fold_entries g (take (b - i) es) t) (sym (entry-held r c l h i u₁ u₂ u₃ u₄)) ∙ inv))
-
-  -- the loop's end, at b or where some slice ends
-  pub range-end : (i : ℕ) (t : List ℕ) → b ≤ i → fold_entries g (range_of r c l h i b) t ≡ whole → t ≡ whole
-  range-end i t u inv =
-      let n : b - i ≡ 0 = omega arith in
-      walked_none g (drop i (entries_of r c l h)) t ∙ (ap (λ (k : ℕ). fold_entries g (take k (drop i (entries_of r c l h))) t) (sym n) ∙ inv)
-
-  pub range-past : (i : ℕ) (t : List ℕ) → held r c l h ≤ i → fold_entries g (range_of r c l h i b) t ≡ whole → t ≡ whole
-  range-past i t u inv =
-      let d : drop i (entries_of r c l h) ≡ [] = drop_of_length-le (entries_of r c l h) {i = i} (rw (entries-held r c l h) u) in
-      walked_none g [] t ∙ (take_none g (b - i) t ∙ (ap (λ (es : List Entry). fold_entries g (take (b - i) es) t) (sym d) ∙ inv))
+  pub fold-end : es ≡ [] → t ≡ whole
+  unfolding fold_entries
+  fold-end h = rw h at inv

@@ -7,6 +7,7 @@ use Rattle.magnetar_layout.specs.Every.{every}
 use Rattle.magnetar_matrix.specs.Matrix.{Entry, Matrix, System}
 use Rattle.magnetar_matrix.specs.Batch.{Relation}
 use Rattle.magnetar_matrix.specs.Lent.{entries_of}
+use Rattle.magnetar_matrix.specs.Numbers.{Numbers}
 use Rattle.magnetar_relation.specs.declared.shapes.Shape.{Shape}
 use Rattle.magnetar_relation.specs.declared.shapes.SystemShape.{SystemShape}
 use Rattle.magnetar_relation.specs.declared.shapes.Shapes.{Shapes}
@@ -30,6 +31,10 @@ rules m q ns s row col lo hi = record {
   numbers = length row ∷ length col ∷ length lo ∷ length hi ∷ [];
   entries = entries_of row col lo hi;
 }
+
+-- from the numbers of entries in whichever form they are lent
+abbrev pub rules_by : (m q : ℕ) → List ℕ → Shapes → Numbers → Rules
+rules_by m q ns s N = rules m q ns s N.row N.col N.lo N.hi
 
 -- from one slice of records, whose entries are es
 abbrev pub rules_over : (m q : ℕ) → List ℕ → Shapes → List Entry → Rules

@@ -2,15 +2,16 @@
 -- login's words against a mask of the columns outside.
 -- Source: document 02, U3; document 01, "The run" (outside), "Matrices and layout" (unused bits never matter) and "Who can be turned back".
 -- Assumes nothing.
-use Rattle.std.specs.Prelude.{◌≡◌, Bool, cond, ◌&&◌, List, ◌++◌, ℕ, ◌+◌, ◌-◌, ◌*◌, ◌%◌, ◌≤◌, eqb, ltb, leb}
+use Rattle.std.specs.Prelude.{◌≡◌, Option, Some, None, Result, Ok, Err, Bool, cond, ◌&&◌, List, ◌++◌, ℕ, ◌+◌, ◌-◌, ◌*◌, ◌%◌, ◌≤◌, eqb, ltb, leb}
+use Rattle.magnetar_field.specs.declared.refusal.Refusal.{Refusal}
+use Rattle.magnetar_field.specs.Number.{number}
 use Rattle.magnetar_field.specs.Refusal.{unless_refused}
 use Rattle.magnetar_layout.specs.Layout.{outside}
 use Rattle.magnetar_layout.specs.Tests.{first_refusal, size_tests, packed_tests, layout_tests}
 use Rattle.magnetar_matrix.specs.Batch.{Batch}
 use Rattle.magnetar_matrix.specs.Packed.{packed_bit, unpacked}
 use Rattle.magnetar_matrix.specs.RowCheck.{stray_column, stray_login}
-use Rattle.magnetar_relation.specs.declared.stray.Stray.{Stray}
-use Rattle.magnetar_relation.specs.declared.stray.Stray.TheVariants as code
+use Rattle.magnetar_relation.specs.declared.stray.StrayBit.{StrayBit}
 
 -- no stray bit; the login and column of the first one; or the number of a refusal
 pub data StrayAnswer : Type 0 where
@@ -18,11 +19,15 @@ pub data StrayAnswer : Type 0 where
   bit : ℕ → ℕ → StrayAnswer
   refused : ℕ → StrayAnswer
 
--- the outcome that a value of the code's enum is
-abbrev pub stray_answer : Stray → StrayAnswer
-stray_answer code.Clear = clear
-stray_answer (code.Bit u y) = bit u y
-stray_answer (code.Refused n) = refused n
+-- what is found, as the code says it
+abbrev pub stray_found : Option StrayBit → StrayAnswer
+stray_found None = clear
+stray_found (Some b) = bit b.login b.column
+
+-- the outcome that the code's answer is
+abbrev pub stray_answer : Result (Option StrayBit) Refusal → StrayAnswer
+stray_answer (Ok b) = stray_found b
+stray_answer (Err r) = refused (number r)
 
 -- what is found in a batch of q logins with w columns and segments of the lengths ns
 unfoldable pub searched : (q w : ℕ) → List ℕ → Batch → StrayAnswer

@@ -1,36 +1,34 @@
 // Where the entries of a matrix end among those that are held, and those of each matrix among those of all six. Places are cut where the
 // entries end, so that no sum overflows.
-ghost use Rattle.std.specs.Prelude.{◌≡◌, ◌+◌, min};
+ghost use Rattle.std.specs.Prelude.{◌≡◌, ◌+◌, min, length, take, drop};
+ghost use Rattle.magnetar_matrix.specs.Numbers.{entries_by, part};
 ghost use Rattle.magnetar_relation.specs.Ends.{ends_of};
 
 use crate::shapes::Shapes;
+use magnetar_matrix::entries::{Entries, Part};
 
-// Where the entries of each matrix end: those of the first start at 0, those of each other one where the one before it ends.
-#[derive(Clone, Copy)]
-pub struct Ends {
-    pub bina: usize,
-    pub binb: usize,
-    pub binc: usize,
-    pub flda: usize,
-    pub fldb: usize,
-    pub fldc: usize,
-}
-
-// Where k entries from place a on end; h where they are fewer.
-pub fn after(a: usize, k: usize, h: usize) -> usize
-    ensures { result ≡ min (a + k) h }
+// Where k entries from place a on end; n where they are fewer.
+pub fn after(a: usize, k: usize, n: usize) -> usize
+    ensures { result ≡ min (a + k) n }
 {
-    if a >= h {
-        return h;
-    }
-    if k >= h - a {
-        return h;
-    }
-    a + k
+    a.saturating_add(k).min(n)
 }
 
-// The ends among n entries.
-pub fn ends_of(s: Shapes, n: usize) -> Ends
+// The k entries from place a on, as far as there are as many.
+pub fn part<'a, E: Entries>(es: &'a E, a: usize, k: usize) -> Part<'a, E>
+    ensures end { result.to ≡ min (a + k) (length (entries_by (E.numbers es.now))) }
+    ensures entries { entries_by (part result.from result.to (E.numbers result.entries.now)) ≡ take k (drop a (entries_by (E.numbers es.now))) }
+{
+    Part {
+        entries: es,
+        from: a,
+        to: after(a, k, es.len()),
+    }
+}
+
+// Where the entries of each matrix end among n entries: A, B, C of bin, then A, B, C of fld. Those of the first start at 0, those of each
+// other one where the one before it ends.
+pub fn ends_of(s: Shapes, n: usize) -> [usize; 6]
     ensures { result ≡ ends_of s n }
 {
     let t = s.bin;
@@ -41,12 +39,5 @@ pub fn ends_of(s: Shapes, n: usize) -> Ends
     let d = after(c, u.a.entries, n);
     let e = after(d, u.b.entries, n);
     let f = after(e, u.c.entries, n);
-    Ends {
-        bina: a,
-        binb: b,
-        binc: c,
-        flda: d,
-        fldb: e,
-        fldc: f,
-    }
+    [a, b, c, d, e, f]
 }

@@ -1,59 +1,61 @@
 // The refusals 4 to 7 of a relation as it is lent.
-ghost use Rattle.std.specs.Prelude.{◌≡◌, ◌&&◌, [], ◌∷◌, ◌≤◌};
+ghost use Rattle.std.specs.Prelude.{◌≡◌, [], ◌∷◌, ◌≤◌};
+ghost use Rattle.magnetar_field.specs.Number.{number_of};
 ghost use Rattle.magnetar_layout.specs.Tests.{first_refusal};
-ghost use Rattle.magnetar_matrix.specs.Lent.{entry, entries_of};
-ghost use Rattle.magnetar_relation.specs.Rules.{entries_in, rules};
+ghost use Rattle.magnetar_matrix.specs.Numbers.{entry_of, entries_by};
+ghost use Rattle.magnetar_relation.specs.Rules.{entries_in, rules_by};
 ghost use Rattle.magnetar_relation.specs.RuleTests.{row_tests, col_tests, most_tests, number_tests, shape_tests, rule_tests_by, rule_tests};
 ghost use Rattle.magnetar_relation.specs.EntryWalks.{shape_in, shape_at, lies_at, every_from};
 
 use crate::shapes::{Shape, Shapes, SystemShape};
-use magnetar_field::sizes;
+use magnetar_field::refusal::{Refusal, require};
+use magnetar_layout::limits::{MOST_BATCH_ROWS, MOST_ENTRIES, MOST_ROWS};
 use magnetar_layout::tests;
+use magnetar_matrix::entries::{Entries, Entry};
 
-// 4: the rows of a system's matrices, for q logins, after an earlier number z.
-fn rows(z: u32, q: usize, t: SystemShape) -> u32
-    ensures { result ≡ first_refusal z (row_tests q t) }
+// 4: the rows of a system's matrices, for q logins.
+#[tactic(auto, using(magnetar_layout::proofs::Passing::passing), unfolding(magnetar_layout::specs::Tests::or_refuse))]
+fn rows(q: usize, t: SystemShape) -> Result<(), Refusal>
+    ensures { number_of result ≡ first_refusal 0 (row_tests q t) }
 {
     let n = t.a.rows;
-    let z = tests::refuse(z, 4, !tests::is_size(1, 65536, n));
-    let z = tests::refuse(z, 4, t.b.rows != n);
-    let z = tests::refuse(z, 4, t.c.rows != n);
-    if z != 0 {
-        return z;
-    }
-    tests::refuse(0, 4, q > 1048576 / n)
+    require(tests::is_size(1, MOST_ROWS, n), Refusal::Rows)?;
+    require(t.b.rows == n, Refusal::Rows)?;
+    require(t.c.rows == n, Refusal::Rows)?;
+    require(q.saturating_mul(n) <= MOST_BATCH_ROWS, Refusal::Rows)
 }
 
 // 5: their columns, where m are wanted.
-fn cols(z: u32, m: usize, t: SystemShape) -> u32
-    ensures { result ≡ first_refusal z (col_tests m t) }
+#[tactic(auto, using(magnetar_layout::proofs::Passing::passing), unfolding(magnetar_layout::specs::Tests::or_refuse))]
+fn cols(m: usize, t: SystemShape) -> Result<(), Refusal>
+    ensures { number_of result ≡ first_refusal 0 (col_tests m t) }
 {
-    let z = tests::refuse(z, 5, t.a.cols != m);
-    let z = tests::refuse(z, 5, t.b.cols != m);
-    tests::refuse(z, 5, t.c.cols != m)
+    require(t.a.cols == m, Refusal::Columns)?;
+    require(t.b.cols == m, Refusal::Columns)?;
+    require(t.c.cols == m, Refusal::Columns)
 }
 
 // 6: too many entries.
-fn most(z: u32, t: SystemShape) -> u32
-    ensures { result ≡ first_refusal z (most_tests t) }
+#[tactic(auto, using(magnetar_layout::proofs::Passing::passing), unfolding(magnetar_layout::specs::Tests::or_refuse))]
+fn most(t: SystemShape) -> Result<(), Refusal>
+    ensures { number_of result ≡ first_refusal 0 (most_tests t) }
 {
-    let z = tests::refuse(z, 6, t.a.entries > 1048576);
-    let z = tests::refuse(z, 6, t.b.entries > 1048576);
-    tests::refuse(z, 6, t.c.entries > 1048576)
+    require(t.a.entries <= MOST_ENTRIES, Refusal::EntryCount)?;
+    require(t.b.entries <= MOST_ENTRIES, Refusal::EntryCount)?;
+    require(t.c.entries <= MOST_ENTRIES, Refusal::EntryCount)
 }
 
 // 4, 5 and 6: the shapes.
-fn shapes(m: usize, q: usize, s: Shapes) -> u32
-    ensures { result ≡ first_refusal 0 (shape_tests m q s) }
+#[tactic(auto, using(magnetar_layout::proofs::Passing::passing), unfolding(magnetar_layout::specs::Tests::or_refuse))]
+fn shapes(m: usize, q: usize, s: Shapes) -> Result<(), Refusal>
+    ensures { number_of result ≡ first_refusal 0 (shape_tests m q s) }
 {
-    let b = s.bin;
-    let f = s.fld;
-    let z = rows(0, q, b);
-    let z = rows(z, q, f);
-    let z = cols(z, m, b);
-    let z = cols(z, m, f);
-    let z = most(z, b);
-    most(z, f)
+    rows(q, s.bin)?;
+    rows(q, s.fld)?;
+    cols(m, s.bin)?;
+    cols(m, s.fld)?;
+    most(s.bin)?;
+    most(s.fld)
 }
 
 // How many entries a system has.
@@ -64,38 +66,31 @@ fn entries_in(t: SystemShape) -> usize
     t.a.entries + t.b.entries + t.c.entries
 }
 
-// 6: slices of r, c, l and h numbers, where each is to hold n.
-fn numbers(n: usize, r: usize, c: usize, l: usize, h: usize) -> u32
-    ensures { result ≡ first_refusal 0 (number_tests n (r ∷ c ∷ l ∷ h ∷ [])) }
+// 6: whether there are n rows, columns, low and high words.
+#[tactic(auto, using(magnetar_layout::proofs::Passing::passing), unfolding(magnetar_layout::specs::Tests::or_refuse))]
+fn numbers(n: usize, counts: [usize; 4]) -> Result<(), Refusal>
+    ensures { number_of result ≡ first_refusal 0 (number_tests n counts) }
 {
-    let z = tests::refuse(0, 6, r != n);
-    let z = tests::refuse(z, 6, c != n);
-    let z = tests::refuse(z, 6, l != n);
-    tests::refuse(z, 6, h != n)
+    let [row, col, lo, hi] = counts;
+    require(row == n, Refusal::EntryCount)?;
+    require(col == n, Refusal::EntryCount)?;
+    require(lo == n, Refusal::EntryCount)?;
+    require(hi == n, Refusal::EntryCount)
 }
 
-// 4 to 7 of the shapes, of slices of r, c, l and h numbers, and of entries that lie inside their matrices or not.
+// 4 to 7 of the shapes, of as many rows, columns, low and high words, and of entries that lie inside their matrices or not.
 pub fn refusal(
     m: usize,
     q: usize,
     s: Shapes,
-    r: usize,
-    c: usize,
-    l: usize,
-    h: usize,
+    counts: [usize; 4],
     inside: bool,
-) -> u32
-    ensures { result ≡ first_refusal 0 (rule_tests_by m q s (r ∷ c ∷ l ∷ h ∷ []) inside) }
+) -> Result<(), Refusal>
+    ensures { number_of result ≡ first_refusal 0 (rule_tests_by m q s counts inside) }
 {
-    let z = shapes(m, q, s);
-    if z != 0 {
-        return z;
-    }
-    let b = s.bin;
-    let f = s.fld;
-    let n = entries_in(b) + entries_in(f);
-    let z = numbers(n, r, c, l, h);
-    tests::refuse(z, 7, !inside)
+    shapes(m, q, s)?;
+    numbers(entries_in(s.bin) + entries_in(s.fld), counts)?;
+    require(inside, Refusal::EntryPlace)
 }
 
 // The shape of the matrix of a system that its entry i belongs to.
@@ -128,53 +123,32 @@ fn shape_at(s: Shapes, i: usize) -> Shape
     if k < t.c.entries {
         return t.c;
     }
-    let f = s.fld;
-    shape_in(f, k - t.c.entries)
+    shape_in(s.fld, k - t.c.entries)
 }
 
-// Carries a flag on where entry i, at this row and column, lies inside its matrix, whatever its value.
-pub fn lies_at(acc: bool, s: Shapes, i: usize, row: usize, col: usize, lo: u64, hi: u64) -> bool
-    ensures { result ≡ acc && lies_at s i (entry row col lo hi) }
+// Entry i lies inside its matrix, whatever its value.
+pub fn lies_at(s: Shapes, i: usize, e: Entry) -> bool
+    ensures { result ≡ lies_at s i (entry_of e) }
 {
-    if acc {
-        let h = shape_at(s, i);
-        if row >= h.rows {
+    let h = shape_at(s, i);
+    e.row < h.rows && e.col < h.cols
+}
+
+// Each entry lies inside its matrix.
+fn all_inside<E: Entries>(s: Shapes, es: &E) -> bool
+    ensures { result ≡ every_from (lies_at s) 0 (entries_by (E.numbers es.now)) }
+{
+    for i in 0..es.len() {
+        if !lies_at(s, i, es.at(i)) {
             return false;
         }
-        return col < h.cols;
     }
-    false
-}
-
-// Each entry, as far as every slice reaches, lies inside its matrix.
-fn all_inside(s: Shapes, row: &[usize], col: &[usize], lo: &[u64], hi: &[u64]) -> bool
-    ensures { result ≡ every_from (lies_at s) 0 (entries_of row.now col.now lo.now hi.now) }
-{
-    let n = sizes::least(
-        sizes::least(row.len(), col.len()),
-        sizes::least(lo.len(), hi.len()),
-    );
-    let mut acc = true;
-    let mut i = 0;
-    while i < n {
-        acc = lies_at(acc, s, i, row[i], col[i], lo[i], hi[i]);
-        i += 1;
-    }
-    acc
+    true
 }
 
 // 4 to 7 of a relation as it is lent.
-pub fn refused(
-    m: usize,
-    q: usize,
-    s: Shapes,
-    row: &[usize],
-    col: &[usize],
-    lo: &[u64],
-    hi: &[u64],
-) -> u32
-    ensures { result ≡ first_refusal 0 (rule_tests (rules m q [] s row.now col.now lo.now hi.now)) }
+pub fn check<E: Entries>(m: usize, q: usize, s: Shapes, es: &E) -> Result<(), Refusal>
+    ensures { number_of result ≡ first_refusal 0 (rule_tests (rules_by m q [] s (E.numbers es.now))) }
 {
-    let inside = all_inside(s, row, col, lo, hi);
-    refusal(m, q, s, row.len(), col.len(), lo.len(), hi.len(), inside)
+    refusal(m, q, s, es.counts(), all_inside(s, es))
 }

@@ -4,7 +4,7 @@ ghost use Rattle.std.specs.Prelude.{◌≡◌};
 ghost use Rattle.magnetar_field.specs.Gf128.{value};
 ghost use Rattle.magnetar_relation.specs.Steps.{cleared_to, added_to, front, between};
 
-use magnetar_field::gf128::Gf128;
+use magnetar_field::gf128::{Gf128, ZERO};
 use magnetar_field::words;
 use magnetar_matrix::step;
 
@@ -13,8 +13,7 @@ pub fn clear_front(n: usize, out: &mut [u64])
     ensures { out.new ≡ cleared_to n out.old }
 {
     if n <= out.len() / 2 {
-        let end = 2 * n;
-        words::clear(&mut out[..end]);
+        words::clear(&mut out[..2 * n]);
     }
 }
 
@@ -23,8 +22,7 @@ pub fn add_to(n: usize, k: usize, v: Gf128, out: &mut [u64])
     ensures { out.new ≡ added_to n k (value v) out.old }
 {
     if n <= out.len() / 2 {
-        let end = 2 * n;
-        step::add_at(&mut out[..end], k, v);
+        step::add_at(&mut out[..2 * n], k, v);
     }
 }
 
@@ -33,10 +31,10 @@ fn get_front(n: usize, s: &[u64], k: usize) -> Gf128
     ensures { value result ≡ front n s.now k }
 {
     if n <= s.len() / 2 {
-        let end = 2 * n;
-        return words::get(&s[..end], k);
+        words::get(&s[..2 * n], k)
+    } else {
+        words::get(s, k)
     }
-    words::get(s, k)
 }
 
 // Element k of the m behind the first n.
@@ -44,9 +42,8 @@ pub fn get_between(n: usize, m: usize, s: &[u64], k: usize) -> Gf128
     ensures { value result ≡ between n m s.now k }
 {
     if n <= s.len() / 2 {
-        let a = 2 * n;
-        let end = s.len();
-        return get_front(m, &s[a..end], k);
+        get_front(m, &s[2 * n..], k)
+    } else {
+        ZERO
     }
-    Gf128 { lo: 0, hi: 0 }
 }

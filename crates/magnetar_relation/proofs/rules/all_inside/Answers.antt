@@ -1,28 +1,25 @@
-use Rattle.magnetar_relation.proofs.ToldLaws.{held, told_more, told-end}
+use mathlib.Core.Path.{sym, ◌∙◌}
 use native.Mathlib.Omega.{arith}
-use mathlib.Core.Path.{◌≡◌, refl}
+use lib.ListN.{drop_of_length-le}
+use Rattle.magnetar_matrix.specs.Numbers.{entries_by}
+use Rattle.magnetar_matrix.proofs.EntryLists.{next_entry}
 use Rattle.magnetar_relation.specs.EntryWalks.{lies_at}
+use Rattle.magnetar_relation.proofs.ToldLaws.{told-more, told-stop, told-end}
 use Rattle.magnetar_relation.proofs.rules.all_inside.Goals as goal
 
-pub loop-i-init : goal.loop-i-init
-loop-i-init c = refl
+pub returns-then-not-lies_at : goal.returns-then-not-lies_at
+returns-then-not-lies_at g c =
+    let e = c.at.ensures in
+    let next = next_entry (g.E.Entries.numbers c.args.es.now) c.loop-i.i c.at.result (omega arith) e.row e.col e.lo e.hi in
+    told-stop (lies_at c.args.s) c.loop-i.i _ _ c.loop-i.invariant _ _ next (sym c.lies_at.ensures ∙ c.if-not-lies_at.true)
 
 pub loop-i-preserved : goal.loop-i-preserved
-loop-i-preserved c =
-    let least-all : let x = c.args in
-    c.least-n.result ≡ held x.row.now x.col.now x.lo.now x.hi.now =
-    rw (c.least-n.ensures.0, c.least-2.ensures.0, c.least.ensures.0) in
-    let x = c.args in
-    let l = c.loop-i in
-    let n = least-all in
-    told_more (lies_at x.s) _ x.row.now x.col.now x.lo.now x.hi.now l.i l.acc _ (omega (arith, n)) (omega (arith, n)) (omega (arith, n)) (omega (arith, n))
-    c.lies_at-acc.ensures l.invariant
+loop-i-preserved g c =
+    let e = c.at.ensures in
+    let next = next_entry (g.E.Entries.numbers c.args.es.now) c.loop-i.i c.at.result (omega arith) e.row e.col e.lo e.hi in
+    told-more (lies_at c.args.s) c.loop-i.i _ _ c.loop-i.invariant _ _ next (sym c.lies_at.ensures ∙ c.if-not-lies_at.false)
 
 pub returns : goal.returns
-returns c =
-    let least-all : let x = c.args in
-    c.least-n.result ≡ held x.row.now x.col.now x.lo.now x.hi.now =
-    rw (c.least-n.ensures.0, c.least-2.ensures.0, c.least.ensures.0) in
-    let x = c.args in
-    told-end (lies_at x.s) _ x.row.now x.col.now x.lo.now x.hi.now c.loop-i.i c.loop-i.acc
-    (omega (arith, least-all)) c.loop-i.invariant
+returns g c =
+    told-end (lies_at c.args.s) c.loop-i.i _ _ c.loop-i.invariant
+    (drop_of_length-le (entries_by (g.E.Entries.numbers c.args.es.now)) {i = c.loop-i.i} (omega arith))

@@ -8,7 +8,7 @@ returns-then-n-s c =
     let x = c.args in
     c.get_front.ensures ∙ between-some x.n x.m x.k x.s.now
 
-pub returns : goal.returns
-returns c =
+pub returns-else-n-s : goal.returns-else-n-s
+returns-else-n-s c =
     let x = c.args in
     between_none x.n x.m x.k x.s.now (omega arith)

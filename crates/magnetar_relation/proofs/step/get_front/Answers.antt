@@ -12,7 +12,7 @@ pub returns-then-n-s : goal.returns-then-n-s
 unfolding front
 returns-then-n-s c = c.get.ensures
 
-pub returns : goal.returns
-returns c =
+pub returns-else-n-s : goal.returns-else-n-s
+returns-else-n-s c =
     let x = c.args in
-    c.get-2.ensures ∙ front-all x.n x.k x.s.now (omega arith)
+    c.get-else-n-s.ensures ∙ front-all x.n x.k x.s.now (omega arith)

@@ -2,37 +2,27 @@ use mathlib.Core.Path.{refl}
 use Prim.Native.Nat.{ℕ, ◌<◌, ◌^◌}
 use native.Mathlib.Omega.{arith}
 use lib.Bits.{bit_and, and_lt}
-use lib.Count.{trailing_le}
 use lib.ListN.{get_or}
-use Rattle.magnetar_relation.proofs.StrayLaws.{apart_more, first-common, none-common}
+use Rattle.magnetar_relation.proofs.StrayLaws.{apart_more, first-common, first-inside, none-common}
 use Rattle.magnetar_relation.proofs.stray.first_column.Goals as goal
 
 pub loop-k-init : goal.loop-k-init
-loop-k-init c = (omega arith, λ y h. absurd (omega arith))
+loop-k-init c = λ y h. absurd (omega arith)
 
-pub overflow_cast-result : goal.overflow_cast-result
-overflow_cast-result c =
-    let common : ℕ = let x = c.args in bit_and (get_or x.words.now c.loop-k.k 0) (get_or x.mask.now c.loop-k.k 0) in
-    omega (arith, trailing_le 64 common)
-
-pub overflow_add-result : goal.overflow_add-result
-overflow_add-result c =
-    let common : ℕ = let x = c.args in bit_and (get_or x.words.now c.loop-k.k 0) (get_or x.mask.now c.loop-k.k 0) in
-    omega (arith, trailing_le 64 common, c.loop-k-test.true, c.requires.words_in_bounds)
-
-pub returns-then-v-ne0 : goal.returns-then-v-ne0
-returns-then-v-ne0 c =
-    let common : ℕ = let x = c.args in bit_and (get_or x.words.now c.loop-k.k 0) (get_or x.mask.now c.loop-k.k 0) in
-    let s = c in
-    let l = c.loop-k in
-    let a : get_or s.args.words.now l.k 0 < 2 ^ 64 = omega (arith, c.type_inv.words l.k) in
-    let b : get_or s.args.mask.now l.k 0 < 2 ^ 64 = omega (arith, c.type_inv.mask l.k) in
-    first-common s.args.mask.now s.args.words.now l.k common refl c.if-v-ne0.true (and_lt 64 _ _ a b) s.args.w s.requires.none_past l.invariant.1
+pub returns-then-common-ne0 : goal.returns-then-common-ne0
+returns-then-common-ne0 c =
+    let x = c.args in
+    let k = c.loop-k.k in
+    let common : ℕ = bit_and (get_or x.words.now k 0) (get_or x.mask.now k 0) in
+    let a : get_or x.words.now k 0 < 2 ^ 64 = omega (arith, c.type_inv.words k) in
+    let b : get_or x.mask.now k 0 < 2 ^ 64 = omega (arith, c.type_inv.mask k) in
+    let small = and_lt 64 _ _ a b in record {
+      first = first-common x.mask.now x.words.now k common refl c.if-common-ne0.true small x.w c.requires.none_past c.loop-k.invariant;
+      inside = first-inside x.mask.now x.words.now k common refl c.if-common-ne0.true small x.w c.requires.none_past c.loop-k.invariant;
+    }
 
 pub loop-k-preserved : goal.loop-k-preserved
-loop-k-preserved c =
-    let l = c.loop-k in
-    (omega (arith, c.loop-k-test.true), apart_more _ _ l.k _ refl c.if-v-ne0.false l.invariant.1)
+loop-k-preserved c = apart_more _ _ c.loop-k.k _ refl c.if-common-ne0.false c.loop-k.invariant
 
-pub returns : goal.returns
-returns c = none-common _ _ _ _ (omega (arith, c.loop-k-test.false)) c.loop-k.invariant.1
+pub returns-clause-first : goal.returns-clause-first
+returns-clause-first c = none-common _ _ _ _ (omega (arith, c.loop-k-test.false)) c.loop-k.invariant

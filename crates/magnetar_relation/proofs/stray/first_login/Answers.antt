@@ -3,44 +3,36 @@ use native.Mathlib.Omega.{arith}
 use lib.ListN.{length}
 use Rattle.magnetar_matrix.specs.Packed.{login_words}
 use Rattle.magnetar_matrix.proofs.LoginParts.{words-most}
-use Rattle.magnetar_matrix.proofs.Verdicts.{first-le}
 use Rattle.magnetar_matrix.proofs.FirstRow.{below-start, below_more}
-use Rattle.magnetar_relation.proofs.StrayLaws.{part_length, none-past, login-clear, login-stray, all-clear}
+use Rattle.magnetar_relation.proofs.StrayLaws.{part_length, none-past, none-found, login-clear, login-stray, all-clear}
 use Rattle.magnetar_relation.proofs.stray.first_login.Goals as goal
 
-pub loop-u-init : goal.loop-u-init
-loop-u-init c = (omega arith, below-start _)
+pub loop-login-init : goal.loop-login-init
+loop-login-init c = below-start _
 
-pub first_column-y-requires : goal.first_column-y-requires
-first_column-y-requires c =
-    let s = c in
-    let x = s.args in
-    let n : length c.part.result.now ≤ login_words x.w = rw c.part.ensures (part_length x.w x.packed.now c.loop-u.u) in record {
-      words_in_bounds = (omega (arith, n, words-most x.w s.requires.0, s.requires.1), omega (arith, s.requires.1));
-      none_past = none-past x.q x.w x.lens.now x.packed.now x.mask.now s.requires.2;
+pub first_column-requires : goal.first_column-requires
+first_column-requires c =
+    let x = c.args in
+    let n : length c.part.result.now ≤ login_words x.w = rw c.part.ensures (part_length x.w x.packed.now c.loop-login.login) in record {
+      words_in_bounds = (omega (arith, n, words-most x.w c.requires.0, c.requires.1), omega (arith, c.requires.1));
+      none_past = none-past x.q x.w x.lens.now x.packed.now x.mask.now c.requires.2;
     }
 
-pub returns-then-y-w : goal.returns-then-y-w
-returns-then-y-w c =
-    let s = c in
-    let x = s.args in
-    login-stray x.q x.w x.lens.now x.packed.now x.mask.now s.requires.2 c.loop-u.u _ c.loop-u-test.true
-    (rw c.part.ensures at c.first_column-y.ensures) c.if-y-w.true c.loop-u.invariant.1
+pub returns-in-Some : goal.returns-in-Some
+returns-in-Some c =
+    let x = c.args in
+    login-stray x.q x.w x.lens.now x.packed.now x.mask.now c.requires.2 c.loop-login.login _ c.loop-login-test.true
+    (rw c.part.ensures at c.in-Some.ensures.first) c.in-Some.ensures.inside c.loop-login.invariant
 
-pub loop-u-preserved : goal.loop-u-preserved
-loop-u-preserved c =
-    let s = c in
-    let x = s.args in
-    let u = c.loop-u.u in
-    let e = rw c.part.ensures at c.first_column-y.ensures in
-    let m : c.first_column-y.result ≤ x.w = rw c.first_column-y.ensures (first-le _ x.w) in (
-      omega (arith, c.loop-u-test.true),
-      below_more _ u c.loop-u.invariant.1
-          (login-clear x.q x.w x.lens.now x.packed.now x.mask.now s.requires.2 u _ c.loop-u-test.true e (omega (arith, c.if-y-w.false)) m),
-    )
+pub loop-login-preserved : goal.loop-login-preserved
+loop-login-preserved c =
+    let x = c.args in
+    let u = c.loop-login.login in
+    let e = none-found c.first_column.result x.w _ c.in_default.not-Some (rw c.part.ensures at c.first_column.ensures.first) in
+    below_more _ u c.loop-login.invariant
+    (login-clear x.q x.w x.lens.now x.packed.now x.mask.now c.requires.2 u x.w c.loop-login-test.true e (omega arith) (omega arith))
 
 pub returns : goal.returns
 returns c =
-    let s = c in
-    let x = s.args in
-    all-clear x.q x.w x.lens.now x.packed.now x.mask.now s.requires.2 _ (omega (arith, c.loop-u-test.false, c.loop-u.invariant.0)) c.loop-u.invariant.1
+    let x = c.args in
+    all-clear x.q x.w x.lens.now x.packed.now x.mask.now c.requires.2 c.loop-login.login (omega arith) c.loop-login.invariant

@@ -9,7 +9,7 @@ pub loop-y-init : goal.loop-y-init
 loop-y-init c =
     let x = c.args in
     let z : x.o + x.n - x.o ≡ x.n = omega arith in
-    (refl, search rules, omega arith, rw z (left-start x.o x.n _ c.requires.in_words c.least-t.ensures.0), flip-none _ _ _ (omega arith))
+    (refl, search rules, omega arith, rw z (left-start x.o x.n _ c.requires.in_words c.min-t.ensures), flip-none _ _ _ (omega arith))
 
 pub flip-requires : goal.flip-requires
 flip-requires c =
@@ -35,7 +35,7 @@ loop-y-preserved c =
     let x = c.args in
     let p : 0 < x.o + x.n - l.y = omega (arith, c.loop-y-test.true) in
     let f = left-fits l.y (x.o + x.n - l.y) _ p l.invariant.3 in
-    let d : x.o + x.n - (l.y + c.least-t.result) ≡ x.o + x.n - l.y - c.least-t.result = omega arith in (
+    let d : x.o + x.n - (l.y + c.min-t.result) ≡ x.o + x.n - l.y - c.min-t.result = omega arith in (
       search rules,
       omega arith,
       omega (arith, f.inside, l.invariant.2),

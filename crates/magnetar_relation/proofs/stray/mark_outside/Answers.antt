@@ -22,7 +22,7 @@ take_out-requires c =
     let x = s.args in
     let l : length x.mask.now ≡ 512 = rw s.requires.mask_value (length-replicate {A = ℕ} 512 0) in
     let k : length c.flip_run.new.mask ≡ length x.mask.now = c.flip_run.auto.mask in record {
-      layout_fits = (sound x.w x.lens.now s.requires.lens_value, rw c.build-done.ensures.written (built x.w x.lens.now s.requires.lens_value _ refl), omega (arith, l, k));
+      layout_fits = (sound x.w x.lens.now s.requires.lens_value, rw c.build-built.ensures.written (built x.w x.lens.now s.requires.lens_value _ refl), omega (arith, l, k));
       all_marked = all-marked x.w x.mask.now _ (λ y. rw s.requires.mask_value (zero-mask 512 y)) c.flip_run.ensures;
     }
 

@@ -17,5 +17,5 @@ overflow_sub-result c = omega (arith, moved _ c.if-t-lt64.true, pow_pos c.args.t
 pub returns-then-t-lt64 : goal.returns-then-t-lt64
 returns-then-t-lt64 c = rw (moved c.args.t c.if-t-lt64.true)
 
-pub returns : goal.returns
-returns c = let e : c.args.t ≡ 64 = omega (arith, c.requires, c.if-t-lt64.false) in rw e
+pub returns-else-t-lt64 : goal.returns-else-t-lt64
+returns-else-t-lt64 c = let e : c.args.t ≡ 64 = omega (arith, c.requires, c.if-t-lt64.false) in rw e

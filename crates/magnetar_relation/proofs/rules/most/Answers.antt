@@ -1,4 +1,0 @@
-use Rattle.magnetar_relation.proofs.rules.most.Goals as goal
-
-pub returns : goal.returns
-returns c = cc
