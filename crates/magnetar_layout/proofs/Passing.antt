@@ -58,6 +58,11 @@ late l k {z} e f = first-refusal-late l k 0 z e refl f
 pub cleared : (l : Tests) → numbered l ≡ true → 0 ≡ first_refusal 0 l → Clear l
 cleared l n e = (first-refusal-clear 0 l n (sym e)).1
 
+-- a `require` that was passed: its test holds
+pub held : (b : Bool) (e : Refusal) (u : Unit {0}) → Ok u ≡ (if b then Ok tt else Err e) → b ≡ true
+held true e u h = refl
+held false e u h = cc
+
 -- a `require` alone: a test with its number
 pub required : (r : Result Unit Refusal) (holds : Bool) (e : Refusal) → r ≡ (if holds then Ok tt else Err e)
     → number_of r ≡ first_refusal 0 ((number e, not holds) ∷ [])

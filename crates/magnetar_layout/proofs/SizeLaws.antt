@@ -2,8 +2,10 @@
 -- Assumes nothing.
 use mathlib.Core.Path.{◌≡◌}
 use mathlib.Core.Bool.{true, false, not, ◌&&◌}
-use Prim.Native.Nat.{ℕ, ◌^◌, ◌≤◌}
-use native.Mathlib.Nat.{le_trans}
+use Prim.Native.Nat.{ℕ, ◌^◌, ◌≤◌, ◌<◌}
+use native.Mathlib.Nat.{le_trans, lt_of_not-le}
+use native.Mathlib.Omega.{arith}
+use lib.Pow.{pow_mono}
 use lib.Dec.{leb}
 use borrow.Author.Tests.{leb-true, eqb-true, not-false}
 use Rattle.magnetar_field.specs.Sizes.{log₂, power_of_two}
@@ -24,3 +26,10 @@ not-bad {least} {most} {n} e = sized least most n (not-false (is_size least most
 -- within wider bounds
 pub sized-wider : {least most n : ℕ} (m : ℕ) → most ≤ m → Sized least most n → Sized least m n
 sized-wider m h z = record { low = z.low; high = le_trans z.high h; power = z.power }
+
+-- the logarithm of a power of two up to 65,536
+pub log-most : (n : ℕ) → n ≤ 65536 → n ≡ 2 ^ log₂ n → log₂ n ≤ 16
+log-most n h e = go (log₂ n) e
+  where
+    go : (k : ℕ) → n ≡ 2 ^ k → k ≤ 16
+    go k e = let b : k < 17 = lt_of_not-le (λ b. omega (arith, pow_mono {i = 17} {j = k} b)) in omega arith
