@@ -83,3 +83,6 @@ le-eight x =
     let f : x / 1099511627776 / 256 ≡ x / 281474976710656 = omega arith in
     let g : x / 281474976710656 / 256 ≡ x / 72057594037927936 = omega arith in
     simp (b, c, d, e, f, g)
+
+pub get-eight : (x j : ℕ) → j < 8 → get_or (to_le_bytes w64 x) j 0 ≡ x / 2 ^ (8 * j) % 256
+get-eight x j h = ap (λ (l : List ℕ). get_or l j 0) (le-eight x) ∙ get-le 8 x j h

@@ -1,6 +1,7 @@
 -- A loop that takes bytes in: what is left to take, and one law for each kind of turn.
 -- Assumes nothing.
-use Rattle.std.proofs.Common.{◌≡◌, ℕ, zero, suc, ◌+◌, ◌<◌, ◌≤◌, List, [], ◌∷◌, ◌++◌, length, get_or, take, drop, sym, refl, ap, ◌∙◌, subst, mod-eq_of_lt, zero-lt-suc, add-one, arith, length-drop, take-append-drop, drop_of_length-le, length-take-le, get_or-drop, drop-cons, drop-drop}
+use Rattle.std.proofs.Common.{◌≡◌, ℕ, zero, suc, ◌+◌, ◌*◌, ◌<◌, ◌≤◌, List, [], ◌∷◌, ◌++◌, length, get_or, take, drop, sym, refl, ap, ◌∙◌, subst, mod-eq_of_lt, zero-lt-suc, add-one, arith, length-drop, take-append-drop, drop_of_length-le, length-take-le, get_or-drop, drop-cons, drop-drop}
+use Rattle.std.specs.Simd.{first_chunks}
 use Rattle.magnetar_hash.specs.Bytes.{le_bytes, number, word_bytes}
 use Rattle.magnetar_hash.specs.Sponge.{Sponge, sponge, fed, ValidFill, Fed}
 use Rattle.magnetar_hash.proofs.Bytes.{le-number}
@@ -82,6 +83,14 @@ left-byte {t} {p} {s} {u} {m} {n} {k} {w} b at e v h l f =
 -- all of the bytes are taken
 pub left_end : {t p s : List ℕ} {m n : ℕ} (b : List ℕ) (at : ℕ) → length b ≤ at → Left t m p s n (drop at b) → Fed t m p s n
 left_end {t} {p} {s} {m} {n} b at h l = left-none (subst (Left t m p s n) (drop_of_length-le b {i = at} h) l)
+
+-- a chunk of 8 bytes
+pub chunk-at : (xs : List ℕ) (k i : ℕ) (d : List ℕ) → i < k → get_or (first_chunks 8 k xs) i d ≡ take 8 (drop (8 * i) xs)
+chunk-at xs zero i d h = absurd (omega arith)
+chunk-at xs (suc k) zero d h = refl
+chunk-at xs (suc k) (suc i) d h =
+    let e : 8 + 8 * i ≡ 8 * suc i = omega arith in
+    chunk-at (drop 8 xs) k i d (omega arith) ∙ ap (take 8) (drop-drop (8 * i) 8 xs ∙ ap (λ (n : ℕ). drop n xs) e)
 
 -- ---- words
 

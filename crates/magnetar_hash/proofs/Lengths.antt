@@ -4,27 +4,13 @@ use Rattle.std.proofs.Common.{◌≡◌, ℕ, ◌+◌, ◌-◌, ◌<◌, ◌≤�
 use borrow.Author.Tests.{eqb-false}
 use Rattle.magnetar_hash.specs.Parts.{total_length}
 
-sum-next : (lens : List ℕ) (i : ℕ) → i < length lens → total_length (drop i lens) ≡ get_or lens i 0 + total_length (drop (i + 1) lens)
+pub sum-next : (lens : List ℕ) (i : ℕ) → i < length lens → total_length (drop i lens) ≡ get_or lens i 0 + total_length (drop (i + 1) lens)
 unfolding total_length
 sum-next lens i h = rw (add-one, drop-cons lens i 0 h)
 
 sum-end : (lens : List ℕ) (i : ℕ) → length lens ≤ i → total_length (drop i lens) ≡ 0
 unfolding total_length
 sum-end lens i h = ap total_length (drop_of_length-le lens {i = i} h)
-
--- `at` bytes and i lengths are behind
-pub record Rest (bytes lens : List ℕ) (at i : ℕ) : Type 0 where
-  pub some : i ≤ length lens
-  pub adds : total_length (drop i lens) + at ≡ length bytes
-
-pub rest_all : {bytes lens : List ℕ} → total_length lens ≡ length bytes → Rest bytes lens 0 0
-rest_all {bytes} {lens} e = record { some = omega arith; adds = omega arith }
-
-pub rest-fits : {bytes lens : List ℕ} {at i : ℕ} → Rest bytes lens at i → i < length lens → at + get_or lens i 0 ≤ length bytes
-rest-fits {bytes} {lens} {at} {i} r h = omega (arith, sum-next lens i h, r.adds)
-
-pub rest_more : {bytes lens : List ℕ} {at i : ℕ} → Rest bytes lens at i → i < length lens → Rest bytes lens (at + get_or lens i 0) (i + 1)
-rest_more {bytes} {lens} {at} {i} r h = record { some = omega arith; adds = omega (arith, sum-next lens i h, r.adds) }
 
 -- of `size`, `left` is not yet used up by i lengths
 pub record Used (lens : List ℕ) (size left i : ℕ) : Type 0 where

@@ -1,23 +1,12 @@
--- The number that bytes make, of 4 bytes, of 8, and of a list in two parts.
+-- The number that bytes make, of 8 bytes and of a list in two parts.
 -- Assumes nothing.
-use Rattle.std.proofs.Common.{◌≡◌, ℕ, suc, ◌+◌, ◌*◌, ◌^◌, ◌<◌, ◌≤◌, List, [], ◌∷◌, ◌++◌, length, get_or, take, drop, sym, ap, ◌∙◌, add-zero, add_assoc, mul_assoc, one-mul, mul-zero, zero-add, mul-add, add-one, arith, length-drop, length-take-le, drop-cons, drop-drop, take-add, pow-add}
+use Rattle.std.proofs.Common.{◌≡◌, ℕ, suc, ◌+◌, ◌*◌, ◌^◌, ◌<◌, ◌≤◌, List, [], ◌∷◌, ◌++◌, length, get_or, take, drop, sym, ap, ◌∙◌, add_assoc, mul_assoc, one-mul, zero-add, mul-add, add-one, arith, drop-cons, pow-add}
+use Rattle.std.specs.Int.{from_le_bytes}
+use mir.Syntax.{w64}
 use Rattle.magnetar_hash.specs.Bytes.{number}
 
 next : (n : ℕ) (l : List ℕ) (at : ℕ) → at < length l → take (suc n) (drop at l) ≡ get_or l at 0 ∷ take n (drop (at + 1) l)
 next n l at h = rw (add-one, drop-cons l at 0 h)
-
-pub four
-    : (l : List ℕ) (at : ℕ)
-    → at + 4 ≤ length l
-    → number (take 4 (drop at l))
-    ≡ get_or l at 0 + 256 * (get_or l (at + 1) 0 + 256 * (get_or l (at + 2) 0 + 256 * get_or l (at + 3) 0))
-unfolding number
-four l at h =
-    let a : at + 1 + 1 ≡ at + 2 = omega arith in
-    let b : at + 2 + 1 ≡ at + 3 = omega arith in
-    rw
-    (next 3 l at (omega arith), next 2 l (at + 1) (omega arith), a, next 1 l (at + 2) (omega arith), b, next 0 l (at + 3) (omega arith))
-    (simp (add-zero, mul-zero))
 
 shift-number : (b n x y : ℕ) → b + 256 * (x + 2 ^ (8 * n) * y) ≡ b + 256 * x + 2 ^ (8 * suc n) * y
 shift-number b n x y =
@@ -29,14 +18,25 @@ unfolding number
 number_append [] q = sym (zero-add (1 * number q) ∙ one-mul (number q))
 number_append (b ∷ p) q = ap (λ (x : ℕ). b + 256 * x) (number_append p q) ∙ shift-number b (length p) (number p) (number q)
 
-pub eight
-    : (l : List ℕ) (at : ℕ)
-    → at + 8 ≤ length l
-    → number (take 8 (drop at l)) ≡ number (take 4 (drop at l)) + 2 ^ 32 * number (take 4 (drop (at + 4) l))
-eight l at h =
-    let m : List ℕ = drop at l in
-    let n : length (take 4 m) ≡ 4 = length-take-le 4 m (omega (arith, length-drop at l)) in
-    ap number (take-add 4 4 m)
-    ∙ number_append (take 4 m) (take 4 (drop 4 m))
-    ∙ ap (λ (k : ℕ). number (take 4 m) + 2 ^ (8 * k) * number (take 4 (drop 4 m))) n
-    ∙ ap (λ (r : List ℕ). number (take 4 m) + 2 ^ 32 * number (take 4 r)) (drop-drop 4 at l)
+-- std's number of 8 bytes
+pub word-number
+    : (l : List ℕ) (at : ℕ) → at + 8 ≤ length l → from_le_bytes w64 (take 8 (drop at l)) ≡ number (take 8 (drop at l))
+unfolding number
+word-number l at h =
+    let a : ℕ = at + 1 in
+    let b : ℕ = a + 1 in
+    let c : ℕ = b + 1 in
+    let d : ℕ = c + 1 in
+    let e : ℕ = d + 1 in
+    let f : ℕ = e + 1 in
+    rw (
+      next 7 l at (omega arith),
+      next 6 l a (omega arith),
+      next 5 l b (omega arith),
+      next 4 l c (omega arith),
+      next 3 l d (omega arith),
+      next 2 l e (omega arith),
+      next 1 l f (omega arith),
+      next 0 l (f + 1) (omega arith),
+    )
+    (omega arith)

@@ -1,6 +1,6 @@
 -- Parts that are taken in: one, one after the other, as many as there are lengths, and the hash of them all.
 -- Assumes nothing.
-use Rattle.std.proofs.Common.{◌≡◌, ℕ, suc, ◌+◌, ◌-◌, ◌<◌, ◌≤◌, List, [], ◌∷◌, ◌++◌, length, get_or, take, drop, replicate, sym, refl, ap, ◌∙◌, subst, append_assoc, append-nil, add-one, arith, drop_of_length-le, drop-cons, drop-drop}
+use Rattle.std.proofs.Common.{◌≡◌, ℕ, suc, ◌+◌, ◌<◌, ◌≤◌, List, [], ◌∷◌, ◌++◌, length, get_or, take, drop, replicate, sym, refl, ap, ◌∙◌, subst, append_assoc, append-nil, add-one, drop_of_length-le, drop-cons}
 use Rattle.magnetar_hash.specs.Bytes.{le_bytes}
 use Rattle.magnetar_hash.specs.Parts.{framed, serialize_parts, sha3_domain, parts}
 use Rattle.magnetar_hash.specs.Sponge.{Fed, sponge, finished}
@@ -39,35 +39,34 @@ length-parts [] bs = refl
 length-parts (n ∷ ns) bs = ap suc (length-parts ns (drop n bs))
 
 parts_next
-    : (lens bytes : List ℕ) (at i : ℕ)
+    : (lens bytes : List ℕ) (i : ℕ)
     → i < length lens
-    → framed (parts (drop i lens) (drop at bytes))
-    ≡ framed (take (get_or lens i 0) (drop at bytes) ∷ []) ++ framed (parts (drop (i + 1) lens) (drop (at + get_or lens i 0) bytes))
+    → framed (parts (drop i lens) bytes)
+    ≡ framed (take (get_or lens i 0) bytes ∷ []) ++ framed (parts (drop (i + 1) lens) (drop (get_or lens i 0) bytes))
 unfolding parts
-parts_next lens bytes at i h =
+parts_next lens bytes i h =
     let n : ℕ = get_or lens i 0 in
-    rw (add-one, drop-cons lens i 0 h)
-    (framed-append (take n (drop at bytes) ∷ []) (parts (drop (suc i) lens) (drop n (drop at bytes)))
-    ∙ ap (λ (r : List ℕ). framed (take n (drop at bytes) ∷ []) ++ framed (parts (drop (suc i) lens) r)) (drop-drop n at bytes))
+    rw (add-one, drop-cons lens i 0 h) (framed-append (take n bytes ∷ []) (parts (drop (suc i) lens) (drop n bytes)))
 
 pub left-part
-    : {t p s u : List ℕ} {m n k : ℕ} (lens bytes : List ℕ) (at i : ℕ)
+    : {t p s u : List ℕ} {m n k : ℕ} (lens bytes part rest : List ℕ) (i : ℕ)
     → i < length lens
-    → Left t m p s n (framed (parts (drop i lens) (drop at bytes)))
-    → Fed s n (framed (take (at + get_or lens i 0 - at) (drop at bytes) ∷ [])) u k
-    → Left t m p u k (framed (parts (drop (i + 1) lens) (drop (at + get_or lens i 0) bytes)))
-left-part {t} {p} {s} {u} {m} {n} {k} lens bytes at i h l f =
-    let e : at + get_or lens i 0 - at ≡ get_or lens i 0 = omega arith in
-    left-more (subst (Left t m p s n) (parts_next lens bytes at i h) l) (rw e at f)
+    → part ≡ take (get_or lens i 0) bytes
+    → rest ≡ drop (get_or lens i 0) bytes
+    → Left t m p s n (framed (parts (drop i lens) bytes))
+    → Fed s n (framed (part ∷ [])) u k
+    → Left t m p u k (framed (parts (drop (i + 1) lens) rest))
+left-part {t} {p} {s} {u} {m} {n} {k} lens bytes part rest i h e d l f =
+    rw d (left-more (subst (Left t m p s n) (parts_next lens bytes i h) l) (rw e at f))
 
 pub left-parts-end
-    : {t p s : List ℕ} {m n : ℕ} (lens bytes : List ℕ) (at i : ℕ)
+    : {t p s : List ℕ} {m n : ℕ} (lens bytes : List ℕ) (i : ℕ)
     → length lens ≤ i
-    → Left t m p s n (framed (parts (drop i lens) (drop at bytes)))
+    → Left t m p s n (framed (parts (drop i lens) bytes))
     → Fed t m p s n
 unfolding framed parts
-left-parts-end {t} {p} {s} {m} {n} lens bytes at i h l =
-    left-none (subst (λ (r : List ℕ). Left t m p s n (framed (parts r (drop at bytes)))) (drop_of_length-le lens {i = i} h) l)
+left-parts-end {t} {p} {s} {m} {n} lens bytes i h l =
+    left-none (subst (λ (r : List ℕ). Left t m p s n (framed (parts r bytes))) (drop_of_length-le lens {i = i} h) l)
 
 -- ---- the hash
 

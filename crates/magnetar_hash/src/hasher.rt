@@ -37,6 +37,5 @@ pub fn feed(s: Sponge, words: &[u64]) -> Sponge
 pub fn finish(s: Sponge) -> [u8; 32]
     ensures { result ≡ finished (within s) }
 {
-    let lanes = s.lanes;
-    sponge::finish(lanes, s.fill % 136)
+    sponge::finish(s.lanes, s.fill % 136)
 }

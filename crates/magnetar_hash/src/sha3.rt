@@ -26,15 +26,6 @@ pub(crate) fn feed_part(s: &mut [u64; 25], fill: usize, part: &[u8]) -> usize
     sponge::feed(s, n, part)
 }
 
-// A part that is a word of 8 bytes.
-pub(crate) fn feed_word_part(s: &mut [u64; 25], fill: usize, w: u64) -> usize
-    requires { ValidFill s.old fill }
-    ensures { Fed s.old fill (framed (le_bytes 8 w ∷ [])) s.new result }
-{
-    let n = sponge::feed_word(s, fill, 8);
-    sponge::feed_word(s, n, w)
-}
-
 // A part that is lent as words.
 pub(crate) fn feed_words_part(s: &mut [u64; 25], fill: usize, words: &[u64]) -> usize
     requires { ValidFill s.old fill }
@@ -49,14 +40,11 @@ pub(crate) fn add_up(lens: &[usize], size: usize) -> bool
     ensures { result ≡ (total_length lens.now == size) }
 {
     let mut left = size;
-    let mut i = 0;
-    while i < lens.len() {
-        let n = lens[i];
-        if left < n {
+    for n in lens {
+        if left < *n {
             return false;
         }
-        left -= n;
-        i += 1;
+        left -= *n;
     }
     left == 0
 }
@@ -67,13 +55,11 @@ pub(crate) fn feed_parts(s: &mut [u64; 25], fill: usize, bytes: &[u8], lens: &[u
     ensures { Fed s.old fill (framed (parts lens.now bytes.now)) s.new result }
 {
     let mut n = fill;
-    let mut at = 0;
-    let mut i = 0;
-    while i < lens.len() {
-        let end = at + lens[i];
-        n = feed_part(s, n, &bytes[at..end]);
-        at = end;
-        i += 1;
+    let mut left = bytes;
+    for len in lens {
+        let (part, rest) = left.split_at(*len);
+        n = feed_part(s, n, part);
+        left = rest;
     }
     n
 }

@@ -12,13 +12,12 @@ fn feed_lane(s: &mut [u64; 25], fill: usize, w: u64, n: usize) -> usize
     ensures { Fed s.old fill (le_bytes n w) s.new result }
 {
     let k = fill / 8;
-    s[k] = s[k] ^ (w << (8 * (fill % 8)));
+    s[k] ^= w << (8 * (fill % 8));
     let next = fill + n;
     if next < 136 {
         return next;
     }
-    let a = *s;
-    let b = keccak::permute(a);
+    let b = keccak::permute(*s);
     *s = b;
     0
 }
@@ -37,42 +36,18 @@ pub(crate) fn feed_word(s: &mut [u64; 25], fill: usize, w: u64) -> usize
     feed_lane(s, n, w >> (64 - up), o)
 }
 
-fn wide(b: u8) -> u64
-    ensures { (result ≡ b) × (result < 256) }
-{
-    b as u64
-}
-
-// The number that 4 bytes make.
-fn half_at(b: &[u8], at: usize) -> u64
-    requires { at + 4 ≤ length b.now }
-    ensures { (result ≡ number (take 4 (drop at b.now))) × (result < 2 ^ 32) }
-{
-    wide(b[at]) + 256 * (wide(b[at + 1]) + 256 * (wide(b[at + 2]) + 256 * wide(b[at + 3])))
-}
-
-// The number that 8 bytes make.
-pub(crate) fn word_at(b: &[u8], at: usize) -> u64
-    requires { at + 8 ≤ length b.now }
-    ensures { result ≡ number (take 8 (drop at b.now)) }
-{
-    half_at(b, at) + 0x100000000 * half_at(b, at + 4)
-}
-
 // Bytes are taken in, eight at a time.
 pub(crate) fn feed(s: &mut [u64; 25], fill: usize, b: &[u8]) -> usize
     requires { ValidFill s.old fill }
     ensures { Fed s.old fill b.now s.new result }
 {
+    let (words, rest) = b.as_chunks::<8>();
     let mut n = fill;
-    let mut at = 0;
-    while 8 <= b.len() - at {
-        n = feed_word(s, n, word_at(b, at));
-        at += 8;
+    for w in words {
+        n = feed_word(s, n, u64::from_le_bytes(*w));
     }
-    while at < b.len() {
-        n = feed_lane(s, n, wide(b[at]), 1);
-        at += 1;
+    for x in rest {
+        n = feed_lane(s, n, *x as u64, 1);
     }
     n
 }
@@ -83,10 +58,8 @@ pub(crate) fn feed_words(s: &mut [u64; 25], fill: usize, words: &[u64]) -> usize
     ensures { Fed s.old fill (word_bytes words.now) s.new result }
 {
     let mut n = fill;
-    let mut i = 0;
-    while i < words.len() {
-        n = feed_word(s, n, words[i]);
-        i += 1;
+    for w in words {
+        n = feed_word(s, n, *w);
     }
     n
 }
@@ -96,20 +69,10 @@ fn squeeze(s: &[u64; 25]) -> [u8; 32]
     ensures { result ≡ squeezed s.now }
 {
     let mut out = [0u8; 32];
-    let mut j = 0;
-    while j < 32 {
-        out[j] = byte_of(s[j / 8], j % 8);
-        j += 1;
+    for j in 0..32 {
+        out[j] = s[j / 8].to_le_bytes()[j % 8];
     }
     out
-}
-
-// Byte j of a word.
-pub(crate) fn byte_of(w: u64, j: usize) -> u8
-    requires { j < 8 }
-    ensures { result ≡ w / 2 ^ (8 * j) % 256 }
-{
-    ((w >> (8 * j)) % 256) as u8
 }
 
 // The padding is taken in. Between its first byte and its last there are only zeros, which change nothing.
@@ -132,6 +95,5 @@ pub(crate) fn finish(s: [u64; 25], fill: usize) -> [u8; 32]
     requires { ValidFill s fill }
     ensures { result ≡ finished (sponge s fill) }
 {
-    let a = pad(s, fill);
-    squeeze(&a)
+    squeeze(&pad(s, fill))
 }

@@ -32,24 +32,9 @@ pub fn fe_to_bytes(x: Gf128) -> [u8; 16]
     ensures { result ≡ le_bytes 16 (value x) }
 {
     let mut out = [0u8; 16];
-    let mut j = 0;
-    while j < 16 {
-        out[j] = fe_byte(x, j);
-        j += 1;
-    }
+    out[..8].copy_from_slice(&x.lo.to_le_bytes());
+    out[8..].copy_from_slice(&x.hi.to_le_bytes());
     out
-}
-
-// Byte j of an element.
-fn fe_byte(x: Gf128, j: usize) -> u8
-    requires { j < 16 }
-    ensures { result ≡ slice_index (le_bytes 16 (value x)) j }
-{
-    if j < 8 {
-        sponge::byte_of(x.lo, j)
-    } else {
-        sponge::byte_of(x.hi, j - 8)
-    }
 }
 
 // A transcript bound to a protocol and its public parts, which are lent as one byte slice and their lengths. Refuses 17.
@@ -88,9 +73,8 @@ fn feed_head(s: &mut [u64; 25], t: Transcript, tag: &[u8], label: &[u8]) -> usiz
     requires { ValidFill s.old 0 }
     ensures { Fed s.old 0 (le_bytes 8 4 ++ framed (t.state ∷ tag.now ∷ label.now ∷ [])) s.new result }
 {
-    let state = t.state;
     let a = sponge::feed_word(s, 0, 4);
-    let b = sha3::feed_part(s, a, &state);
+    let b = sha3::feed_part(s, a, &t.state);
     let c = sha3::feed_part(s, b, tag);
     sha3::feed_part(s, c, label)
 }
@@ -142,14 +126,12 @@ pub fn absorb_digest(t: Transcript, label: &[u8], d: &[u8; 32]) -> Result<Transc
 pub fn draw(t: Transcript, label: &[u8]) -> Transcript
     ensures { result ≡ spec.drawn t label.now }
 {
-    let count = t.squeeze_ctr;
     let mut s = [0u64; 25];
     let a = feed_head(&mut s, t, b"squeeze", label);
-    let b = sha3::feed_word_part(&mut s, a, count);
-    let state = sponge::finish(s, b);
+    let b = sha3::feed_part(&mut s, a, &t.squeeze_ctr.to_le_bytes());
     Transcript {
-        state,
-        squeeze_ctr: std::num::wrapping_add_u64(count, 1),
+        state: sponge::finish(s, b),
+        squeeze_ctr: t.squeeze_ctr.wrapping_add(1),
     }
 }
 
@@ -157,10 +139,10 @@ pub fn draw(t: Transcript, label: &[u8]) -> Transcript
 pub fn element(t: Transcript) -> Gf128
     ensures { result ≡ spec.element t }
 {
-    let state = t.state;
+    let (words, _) = t.state.as_chunks::<8>();
     Gf128 {
-        lo: sponge::word_at(&state, 0),
-        hi: sponge::word_at(&state, 8),
+        lo: u64::from_le_bytes(words[0]),
+        hi: u64::from_le_bytes(words[1]),
     }
 }
 
@@ -181,16 +163,12 @@ pub fn draw_vec(t: Transcript, label: &[u8], out: &mut [u64]) -> Transcript
         × (out.new ≡ spec.drawn_words (length out.old / 2) t label.now
         ++ drop (2 * (length out.old / 2)) out.old) }
 {
-    let n = out.len() / 2;
     let mut u = t;
-    let mut i = 0;
-    while i < n {
-        let v = draw(u, label);
-        let x = element(v);
+    for i in 0..out.len() / 2 {
+        u = draw(u, label);
+        let x = element(u);
         out[2 * i] = x.lo;
         out[2 * i + 1] = x.hi;
-        u = v;
-        i += 1;
     }
     u
 }

@@ -1,36 +1,27 @@
-use Rattle.std.proofs.Common.{rules}
-use Rattle.magnetar_hash.proofs.Left.{left-all, left_word, left-byte, left_end, left-last}
+use Rattle.std.proofs.Common.{◌≡◌, [], ◌+◌, ◌*◌, ◌/◌, ◌<◌, ◌≤◌, length, get_or-drop, refl, ◌∙◌, arith}
+use Rattle.magnetar_hash.proofs.Number.{word-number}
+use Rattle.magnetar_hash.proofs.Left.{left_word, left-byte, left_end, left-last, chunk-at}
 use Rattle.magnetar_hash.proofs.sponge.feed.Goals as goal
 
-pub loop-at-init : goal.loop-at-init
-loop-at-init c = (search rules, left-all _ c.requires)
+pub loop-w-preserved : goal.loop-w-preserved
+loop-w-preserved c =
+    let b = c.args.b.now in
+    let i = c.loop-w.w-index in
+    let h : i < length b / 8 = omega (arith, c.as_chunks.ensures.front_len) in
+    let k : 8 * i + 8 ≤ length b = omega arith in
+    let n : 8 * (i + 1) ≡ 8 * i + 8 = omega arith in
+    let f = rw (c.as_chunks.ensures.front, chunk-at b (length b / 8) i [] h) at c.from_le_bytes.ensures in
+    rw n (left_word b (8 * i) (λ j. (c.type_inv.b j).fits) k (f ∙ word-number b (8 * i) k) c.loop-w.invariant c.feed_word-n.ensures)
 
-pub feed_word-n-requires : goal.feed_word-n-requires
-feed_word-n-requires c = c.loop-at.invariant.1.ready
-
-pub loop-at-preserved : goal.loop-at-preserved
-loop-at-preserved c =
-    let l = c.loop-at in
-    let a = c.args in (
-      search rules,
-      left_word a.b.now l.at (λ i. (c.shared_slice_known-1.given i).fits) (search rules)
-          c.word_at.ensures l.invariant.1 c.feed_word-n.ensures,
-    )
-
-pub loop-at-2-init : goal.loop-at-2-init
-loop-at-2-init c = (search rules, left-all _ c.loop-at.invariant.1.ready)
-
-pub feed_lane-n-requires : goal.feed_lane-n-requires
-feed_lane-n-requires c =
-    (c.loop-at-2.invariant.1.ready, search rules, search rules, c.wide.ensures.1)
-
-pub loop-at-2-preserved : goal.loop-at-2-preserved
-loop-at-2-preserved c =
-    let l = c.loop-at-2 in
-    let a = c.args in
-    (search rules, left-byte a.b.now l.at (search rules) c.wide.ensures.0 c.wide.ensures.1 l.invariant.1 c.feed_lane-n.ensures)
+pub loop-x-preserved : goal.loop-x-preserved
+loop-x-preserved c =
+    left-byte c.as_chunks.result.1.now c.loop-x.x-index (omega arith) refl
+    (rw (c.as_chunks.ensures.back, get_or-drop) (c.type_inv.b _).fits) c.loop-x.invariant c.feed_lane-n.ensures
 
 pub returns : goal.returns
 returns c =
-    let l = c.loop-at-2 in
-    left-last c.loop-at.invariant.1 (left_end c.args.b.now l.at (search rules) l.invariant.1)
+    let b = c.args.b.now in
+    let r = c.as_chunks.result.1.now in
+    let n : length b / 8 * 8 ≡ 8 * c.loop-w.w-index = omega (arith, c.as_chunks.ensures.front_len) in
+    let e = rw n at c.as_chunks.ensures.back in
+    left-last c.loop-w.invariant (rw e at (left_end r c.loop-x.x-index (omega arith) c.loop-x.invariant))

@@ -5,4 +5,4 @@ use Rattle.magnetar_hash.proofs.sponge.finish.Goals as goal
 
 pub returns : goal.returns
 unfolding finished
-returns c = c.squeeze.ensures ∙ ap squeezed c.pad-a.ensures
+returns c = c.squeeze.ensures ∙ ap squeezed c.pad.ensures

@@ -1,16 +1,10 @@
-use Rattle.std.proofs.Common.{sym, refl, arith, rules}
-use Rattle.magnetar_field.specs.Gf128.{value}
-use Rattle.magnetar_keccak.proofs.Written.{written_none, written-more, written_all}
-use Rattle.magnetar_hash.proofs.Bytes.{length-le}
+use Rattle.std.proofs.Common.{◌++◌, sym, ap₂, ◌∙◌, List, ℕ, rules}
+use Rattle.magnetar_hash.proofs.Bytes.{le-eight}
+use Rattle.magnetar_hash.proofs.Element.{le-halves}
 use Rattle.magnetar_hash.proofs.transcript.fe_to_bytes.Goals as goal
 
-pub loop-j-init : goal.loop-j-init
-loop-j-init c = (search rules, written_none _ _ (sym (length-le 16 _)))
-
-pub loop-j-preserved : goal.loop-j-preserved
-loop-j-preserved c =
-    let l = c.loop-j in
-    (search rules, written-more _ _ _ _ _ l.invariant.1 (omega (arith, length-le 16 (value c.args.x))) refl c.fe_byte.ensures)
-
 pub returns : goal.returns
-returns c = written_all _ _ c.loop-j.j c.loop-j.invariant.1 (omega (arith, length-le 16 (value c.args.x)))
+returns c =
+    let x = c.args.x in
+    rw (c.copy_from_slice.ensures.after, c.copy_from_slice-2.ensures.after, c.to_le_bytes.ensures, c.to_le_bytes-2.ensures)
+    (ap₂ (λ (a b : List ℕ). a ++ b) (le-eight x.lo) (le-eight x.hi) ∙ sym (le-halves x.lo x.hi (search rules)))
