@@ -1,28 +1,38 @@
 -- The eq table of a tau in its place, and the terminals sent one at a time.
 -- Assumes nothing.
 use mathlib.Core.Path.{◌≡◌, refl, sym, ap, ap₂, ◌∙◌}
-use mathlib.Core.List.{List, [], ◌∷◌, ◌++◌}
+use mathlib.Core.List.{List, [], ◌∷◌, ◌++◌, append-nil}
 use Prim.Native.Nat.{ℕ, suc, ◌+◌, ◌-◌, ◌*◌, ◌/◌, ◌%◌, ◌^◌, ◌≤◌}
 use Prim.Native.String.{String}
 use native.Mathlib.Omega.{arith}
-use lib.ListN.{length, get_or, take, drop}
+use lib.ListN.{length, get_or, take, drop, drop_of_length-le}
 use lib.Seq.{length-take-le, take_at, drop-drop}
 use borrow.Rule.Slice.PartMut.{put_mid}
 use Rattle.magnetar_field.specs.Words.{elements, words}
 use Rattle.magnetar_multilinear.specs.EqTable.{eq_table}
-use Rattle.magnetar_multilinear.specs.Entries.{eq_out}
+use Rattle.magnetar_multilinear.specs.Entries.{eq_out, table_words}
 use Rattle.magnetar_field.proofs.Elements.{elements-length, elements-drop, words-length}
-use Rattle.magnetar_multilinear.proofs.EqTables.{eq_table-length}
+use Rattle.magnetar_multilinear.proofs.EqTables.{eq_table-length, from_one}
 use Rattle.magnetar_hash.specs.declared.transcript.Transcript.{Transcript}
 use Rattle.magnetar_schedule.specs.Schedule.{numbered}
 use Rattle.magnetar_matrix.specs.Table.{Point}
-use Rattle.magnetar_r1cs.proofs.Points.{eq-built}
+use Rattle.magnetar_multilinear.proofs.Refusals.{eq-none}
 use Rattle.magnetar_matrix.proofs.TableLaws.{elements-words}
 use Rattle.magnetar_sumcheck_verifier.specs.Messages.{outer_start}
 use Rattle.magnetar_prover.specs.Entries.{table_at}
 use Rattle.magnetar_prover.specs.InScratch.{outer_in, absorbed_one, Sent, sent_in, sent_each, three_in, EqTablePlaced}
 use Rattle.magnetar_prover.proofs.Slots.{part-size, part-is, fore-back, fore-length, mid-front, mid_at}
 use Rattle.magnetar_prover.proofs.Sent.{elements-take, table-first}
+
+-- what `EqBits::build` leaves from 1, where the room is the table's own
+pub eq-built : (p s : List ℕ) → Point p s → eq_out p 1 s ≡ words (eq_table (elements p))
+eq-built p s h =
+    rw (
+      eq-none p s h.even h.short (omega (arith, h.room)),
+      drop_of_length-le s {i = table_words p} (omega (arith, h.room)),
+      append-nil,
+      from_one,
+    )
 
 -- the eq table of x elements from o on, in the first w words of s
 module _ (draws s last : List ℕ) (o x w : ℕ) (few : x ≤ 20) (room : 2 * (o + x) ≤ length draws) (fits : w ≤ length s) (size : w ≡ 2 * 2 ^ x) where

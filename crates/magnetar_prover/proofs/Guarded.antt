@@ -7,31 +7,23 @@ use Prim.Native.Nat.{ℕ, suc, ◌+◌, ◌-◌, ◌*◌, ◌/◌, ◌^◌, ◌�
 use native.Mathlib.Nat.{two-pow-succ}
 use native.Mathlib.Omega.{arith}
 use lib.ListN.{length, get_or}
-use borrow.Author.Tests.{ltb-false}
+use borrow.Author.Tests.{ltb-false, not-false}
 use Rattle.magnetar_field.specs.Sizes.{log₂}
 use Rattle.magnetar_field.proofs.Log2.{log₂-pow}
 use Rattle.magnetar_hash.specs.declared.transcript.Transcript.{Transcript}
 use Rattle.magnetar_layout.specs.Entries.{layout_refusal}
-use Rattle.magnetar_layout.specs.Tests.{or_refuse, first_refusal, column_tests, layout_tests, room_test, most_columns, most_segments, Sized}
-use Rattle.magnetar_layout.proofs.FirstRefusal.{first-refusal-rest, first-refusal-clear}
-use Rattle.magnetar_layout.proofs.SizeLaws.{not-bad}
+use Rattle.magnetar_layout.specs.Tests.{or_refuse, first_refusal, is_size, column_tests, layout_tests, room_test, most_columns, most_segments, Sized}
+use Rattle.magnetar_layout.proofs.FirstRefusal.{first-refusal-clear}
+use Rattle.magnetar_layout.proofs.SizeLaws.{not-bad, log-most}
 use Rattle.magnetar_layout.proofs.Laid.{sound, each-size}
-use Rattle.magnetar_r1cs.proofs.Points.{log-most}
 use Rattle.magnetar_layout.proofs.Readings.{log-le}
 use Rattle.magnetar_protocol.specs.RunTests.{counter_tests}
-use Rattle.magnetar_layout.proofs.Laid.{even-size}
+use Rattle.magnetar_layout.proofs.Laid.{even-size, layout-own}
+use Rattle.magnetar_layout.proofs.Passing.{passing}
 use Rattle.magnetar_prover.specs.InScratch.{Locals}
 use Rattle.magnetar_prover.specs.Entries.{inner_rounds_refusal}
 
--- where the columns are good, the layout's refusal is that of its own tests
-pub layout-rest : (m : ℕ) (ns : List ℕ) (z : ℕ) → first_refusal 0 (column_tests m) ≡ 0 → z ≡ layout_refusal (m / 2) ns
-    → z ≡ first_refusal 0 (column_tests m ++ layout_tests (m / 2) ns)
-unfolding layout_refusal
-layout-rest m ns z e g =
-    let k : Sized 2 most_columns m = not-bad (first-refusal-clear 0 (column_tests m) refl e).1.0 in
-    let h : first_refusal 0 (column_tests (2 * (m / 2))) ≡ 0 = rw (even-size m k) e in
-    g ∙ (first-refusal-rest (column_tests (2 * (m / 2))) (layout_tests (m / 2) ns) 0 (sym h) refl
-    ∙ sym (first-refusal-rest (column_tests m) (layout_tests (m / 2) ns) 0 (sym e) refl))
+pub ruleset sizing = (passing, layout-own)
 
 -- ---- what holds where nothing is refused
 pub record Sizes (m : ℕ) (ns : List ℕ) : Type 0 where
@@ -52,7 +44,7 @@ sizes-of m ns e =
       columns = z;
       few = log-most m z.high z.power;
       segments = ltb-false _ _ k.1.1.1.0;
-      layout = layout-rest m ns (layout_refusal (m / 2) ns) (note-good 1 _ k.0) refl ∙ e;
+      layout = layout-own m ns (not-false (is_size 2 most_columns m) k.0) ∙ (rw (note-good 1 _ k.0) at e);
     }
 
 pub record InnerFits (m : ℕ) (ns proof draws s : List ℕ) : Type 0 where

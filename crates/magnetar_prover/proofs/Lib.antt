@@ -22,3 +22,4 @@ mod Turns
 mod WholeSchedule
 mod Captured
 mod PlayGuard
+mod Handed

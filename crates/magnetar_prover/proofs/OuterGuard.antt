@@ -11,10 +11,10 @@ use lib.Pow.{pow_mono, pow-add}
 use borrow.Author.Tests.{ltb-false}
 use Rattle.magnetar_field.specs.Sizes.{log₂}
 use Rattle.magnetar_hash.specs.declared.transcript.Transcript.{Transcript}
-use Rattle.magnetar_layout.specs.Tests.{first_refusal, room_test, Sized}
+use Rattle.magnetar_layout.specs.Tests.{Tests, first_refusal, room_test, Sized}
 use Rattle.magnetar_layout.proofs.FirstRefusal.{first-refusal-clear}
-use Rattle.magnetar_layout.proofs.SizeLaws.{not-bad}
-use Rattle.magnetar_r1cs.proofs.Points.{log-most}
+use Rattle.magnetar_layout.proofs.Passing.{passing}
+use Rattle.magnetar_layout.proofs.SizeLaws.{not-bad, log-most}
 use Rattle.magnetar_prover.specs.Whole.{Blocks}
 use Rattle.magnetar_protocol.specs.RunTests.{counter_tests}
 use Rattle.magnetar_prover.specs.Entries.{count_tests, total_tests, outer_drawn, outer_sent, block_words, outer_rounds_refusal}
@@ -34,15 +34,17 @@ counts_of q rb rf e =
 pub product-fits : (q n : ℕ) → q ≤ 4096 → n ≤ 65536 → q * n < 2 ^ 64
 product-fits q n h k = let e : q * n ≤ 4096 * 65536 = le_trans (mul-le-mul_left q k) (mul-le-mul_right 65536 h) in omega (arith, e)
 
+pub ruleset counting = (passing, product-fits)
+
 -- all tests of the sizes
 pub record Totals (q rb rf : ℕ) : Type 0 where
   pub counts : Counts q rb rf
   pub bin : q * rb ≤ 1048576
   pub fld : q * rf ≤ 1048576
 
-pub totals-of : (q rb rf : ℕ) → first_refusal 0 (count_tests q rb rf ++ total_tests q rb rf) ≡ 0 → Totals q rb rf
+pub totals-of : (q rb rf : ℕ) → 0 ≡ first_refusal 0 (count_tests q rb rf ++ total_tests q rb rf) → Totals q rb rf
 totals-of q rb rf e =
-    let k = (first-refusal-clear 0 (count_tests q rb rf ++ total_tests q rb rf) refl e).1 in
+    let k = (first-refusal-clear 0 (count_tests q rb rf ++ total_tests q rb rf) refl (sym e)).1 in
     record {
       counts = record { logins = not-bad k.0; bin = not-bad k.1.0; fld = not-bad k.1.1.0 };
       bin = ltb-false _ _ k.1.1.1.0;
@@ -70,6 +72,16 @@ outer-fits q rb rf proof draws s t e =
       sent = ltb-false _ _ k.1.1.1.1.1.1.1.0;
       scratch = ltb-false _ _ k.1.1.1.1.1.1.1.1.0;
     }
+
+-- the tests of the sizes, and those behind them
+abbrev pub of_totals : (q rb rf : ℕ) → Tests
+of_totals q rb rf = count_tests q rb rf ++ total_tests q rb rf
+
+abbrev pub of_room : (q rb rf : ℕ) (proof draws s : List ℕ) → Transcript → Tests
+of_room q rb rf proof draws s t =
+    counter_tests t.squeeze_ctr
+    ++ (room_test (2 * outer_drawn (log₂ q) (log₂ rb) (log₂ rf)) draws ++ room_test (2 * outer_sent (log₂ q) (log₂ rb) (log₂ rf)) proof
+    ++ room_test (block_words q rb rf) s)
 
 -- the logarithms
 pub logins-few : {q rb rf : ℕ} → Counts q rb rf → log₂ q < 64

@@ -33,7 +33,7 @@ use Rattle.magnetar_prover.proofs.Sent.{elements-take}
 pub segment-is : (w : ℕ) (ns : List ℕ) (i : ℕ) (s : List ℕ) → layout_refusal w ns ≡ 0 → i < length ns → 2 * w ≤ length s
     → elements (segment_part w ns i (take (2 * w) s)) ≡ take (get_or ns i 0) (drop (offset ns i) (table_at 0 (2 * w) s))
 segment-is w ns i s e h l =
-    ap elements (sym (part-is w ns i (take (2 * w) s) 0 (sym e) refl (length-take-le (2 * w) s l) h))
+    ap elements (sym (part-is w ns i (take (2 * w) s) (sym e) (length-take-le (2 * w) s l) h))
     ∙ (sym (elements-take (get_or ns i 0) (drop (2 * offset ns i) (take (2 * w) s)))
     ∙ ap (take (get_or ns i 0)) (sym (elements-drop (offset ns i) (take (2 * w) s))))
 

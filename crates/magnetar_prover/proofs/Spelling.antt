@@ -4,8 +4,8 @@ use mathlib.Core.Path.{◌≡◌, refl, sym, ap, ◌∙◌}
 use mathlib.Core.List.{List, [], ◌∷◌, ◌++◌, append_assoc, append-nil}
 use Prim.Native.Nat.{ℕ, zero, suc, ◌+◌, ◌*◌, ◌-◌, ◌/◌, ◌%◌, ◌^◌, ◌<◌, ◌≤◌}
 use native.Mathlib.Omega.{arith}
-use lib.ListN.{length, get_or, set, take, drop, length-set, length-drop, drop_of_length-le}
-use lib.Seq.{drop-cons, drop-set-lt, get_or-set_same, take-suc, take-length, take_all}
+use lib.ListN.{length, set, take, drop, length-set, length-drop, drop_of_length-le}
+use lib.Seq.{drop-cons, drop-set-lt, get_or-set_same, take_all}
 use borrow.Author.Tests.{lt-ltb, le-ltb}
 use Rattle.magnetar_schedule.specs.Schedule.{decimal}
 
@@ -94,63 +94,6 @@ spelt-end {n} {rest} {at} {out} s h =
     let d : drop at (set out at (48 + rest)) ≡ decimal (suc s.left) rest ++ drop (suc at) out =
     drop-written out at (48 + rest) (omega arith) ∙ ap (λ (r : List ℕ). r ++ drop (suc at) out) (sym (digits-one s.left rest h)) in
     (omega arith, omega arith, d ∙ s.whole)
-
--- the prefix up to j and what begins at `at` are the whole
-pub record Prefixed (prefix out : List ℕ) (end : ℕ) (now : List ℕ) (j at : ℕ) : Type 0 where
-  pub some : j ≤ length prefix
-  pub place : at + length prefix ≡ end + j
-  pub room : end ≤ length out
-  pub size : length now ≡ length out
-  pub whole : take j prefix ++ drop at now ≡ prefix ++ drop end out
-
-pub prefixed-start : (prefix out : List ℕ) (end : ℕ) → end ≤ length out → Prefixed prefix out end out (length prefix) end
-prefixed-start prefix out end h =
-    record {
-      some = omega arith;
-      place = refl;
-      room = h;
-      size = refl;
-      whole = ap (λ (r : List ℕ). r ++ drop end out) (take-length prefix);
-    }
-
-pub prefixed-more
-    : {prefix out now : List ℕ} {end j at : ℕ}
-    → Prefixed prefix out end now j at
-    → 0 < j
-    → length prefix ≤ end
-    → Prefixed prefix out end (set now (at - 1) (get_or prefix (j - 1) 0)) (j - 1) (at - 1)
-prefixed-more {prefix} {out} {now} {end} {j} {at} p h b =
-    let place : at + length prefix ≡ end + j = p.place in
-    let some : j ≤ length prefix = p.some in
-    let room : end ≤ length out = p.room in
-    let size : length now ≡ length out = p.size in
-    let j' : suc (j - 1) ≡ j = omega arith in
-    let at' : suc (at - 1) ≡ at = omega arith in
-    let x = get_or prefix (j - 1) 0 in
-    let t : take j prefix ≡ take (j - 1) prefix ++ (x ∷ []) = ap (λ (k : ℕ). take k prefix) (sym j') ∙ take-suc prefix (j - 1) 0 (omega arith) in
-    let d : drop (at - 1) (set now (at - 1) x) ≡ x ∷ drop at now =
-    drop-written now (at - 1) x (omega arith) ∙ ap (λ (k : ℕ). x ∷ drop k now) at' in
-    record {
-      some = omega arith;
-      place = omega arith;
-      room = room;
-      size = rw length-set size;
-      whole =
-          ap (λ (r : List ℕ). take (j - 1) prefix ++ r) d
-          ∙ sym (append_assoc (take (j - 1) prefix) (x ∷ []) (drop at now))
-          ∙ ap (λ (r : List ℕ). r ++ drop at now) (sym t)
-          ∙ p.whole;
-    }
-
-pub prefixed-end
-    : {prefix out now : List ℕ} {end j at : ℕ}
-    → Prefixed prefix out end now j at
-    → length prefix ≤ end
-    → j ≡ 0
-    → (at ≤ end) × (drop at now ≡ prefix ++ drop end out)
-prefixed-end {prefix} {out} {now} {end} {j} {at} p b h =
-    let place : at + length prefix ≡ end + j = p.place in
-    (omega arith, rw h at p.whole)
 
 -- the end of the buffer, from `at` on
 pub rest_of : (out : List ℕ) (at : ℕ) → length out ≡ 48 → take (48 - at) (drop at out) ≡ drop at out

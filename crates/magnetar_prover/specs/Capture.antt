@@ -2,9 +2,11 @@
 -- draws.
 -- Source: the Rust's `round_capturing`; document 01, "Who can be turned back" (11 and 14).
 -- Assumes nothing.
-use Rattle.std.specs.Prelude.{Bool, false, not, cond, List, ℕ, ◌^◌, ltb}
+use Rattle.std.specs.Prelude.{Bool, false, not, cond, List, ℕ, ◌^◌, ltb, Result, Ok, Err}
 use Rattle.magnetar_field.specs.declared.gf128.Gf128.{Gf128}
+use Rattle.magnetar_field.specs.declared.refusal.Refusal.{Refusal}
 use Rattle.magnetar_field.specs.Gf128.{value}
+use Rattle.magnetar_field.specs.Number.{number}
 use Rattle.magnetar_field.specs.Refusal.{refuse, unless_refused}
 use Rattle.magnetar_field.specs.Words.{elements}
 use Rattle.magnetar_hash.specs.declared.transcript.Transcript.{Transcript}
@@ -35,10 +37,6 @@ pub record CaptureLeft : Type 0 where
   pub challenge : Gf128
   pub transcript : Transcript
 
--- the same of what the function returns
-abbrev pub captured_by : Captured → CaptureLeft
-captured_by o = record { code = o.code; holds = o.holds; claim = value o.claim; challenge = o.challenge; transcript = o.transcript }
-
 -- 11: the message is not of n coefficients; 14: the counter is 2^32 or more
 unfoldable pub capture_refusal : ℕ → List ℕ → Transcript → ℕ
 capture_refusal n m t = refuse 11 (not (is_message n m)) (refuse 14 (not (ltb t.squeeze_ctr (2 ^ 32))) 0)
@@ -46,6 +44,11 @@ capture_refusal n m t = refuse 11 (not (is_message n m)) (refuse 14 (not (ltb t.
 -- nothing is drawn: claim and transcript stay
 abbrev pub undrawn : ℕ → ℕ → Transcript → CaptureLeft
 undrawn code c t = record { code = code; holds = false; claim = c; challenge = no_element; transcript = t }
+
+-- what the function leaves; one that is refused leaves the running claim c and the transcript t
+abbrev pub captured_by : ℕ → Transcript → Result Captured Refusal → CaptureLeft
+captured_by c t (Ok o) = record { code = 0; holds = o.holds; claim = value o.claim; challenge = o.challenge; transcript = o.transcript }
+captured_by c t (Err e) = undrawn (number e) c t
 
 -- the challenge is drawn where the message is right
 unfoldable pub capture_outcome : ℕ → List ℕ → ℕ → Transcript → List ℕ → CaptureLeft

@@ -14,7 +14,7 @@ use Rattle.magnetar_schedule.specs.ScheduleRun.{RunState, run_from}
 use Rattle.magnetar_schedule.specs.Stepwise.{Steps, Tables, begin, tau_steps, outer_all, inner_all}
 use Rattle.magnetar_matrix.specs.Batch.{Relation}
 use Rattle.magnetar_layout.specs.Tests.{Tests, first_refusal, is_size, most_logins, most_rows, most_batch_rows, column_tests, layout_tests, room_test}
-use Rattle.magnetar_hash.specs.declared.transcript.TranscriptAnswer.{TranscriptAnswer}
+use Rattle.magnetar_hash.specs.Transcript.{TranscriptAnswer}
 
 -- ---- what a run leaves, unless it is refused with z
 -- the answer

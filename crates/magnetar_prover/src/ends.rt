@@ -6,7 +6,7 @@ ghost use Rattle.magnetar_schedule.specs.Stepwise.{begin, draw_times};
 ghost use Rattle.magnetar_schedule.specs.Schedule.{numbered};
 ghost use Rattle.magnetar_prover.specs.InScratch.{steps_in, absorbed_one, sent_in, sent_each, three_in, EqTablePlaced};
 
-use crate::events;
+use crate::events::{self, System};
 use magnetar_field::gf128::ONE;
 use magnetar_field::words;
 use magnetar_hash::transcript::Transcript;
@@ -19,8 +19,8 @@ pub(crate) fn taus(sb: usize, sf: usize, draws: &mut [u64], t: Transcript) -> Tr
 {
     let a = 2 * sb;
     let e = a + 2 * sf;
-    let u = events::tau(t, &mut draws[..a], true);
-    let r = events::tau(u, &mut draws[a..e], false);
+    let u = events::tau(t, &mut draws[..a], System::Bin);
+    let r = events::tau(u, &mut draws[a..e], System::Fld);
     r
 }
 

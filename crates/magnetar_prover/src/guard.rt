@@ -1,34 +1,56 @@
 // Which refusal applies, in rising order.
-ghost use Rattle.std.specs.Prelude.{◌≡◌, ◌++◌, ◌*◌, ◌/◌, ◌<◌, ◌≤◌};
-ghost use Rattle.magnetar_layout.specs.Tests.{first_refusal, column_tests, layout_tests};
+ghost use Rattle.std.specs.Prelude.{◌≡◌, not, eqb, [], ◌∷◌, ◌++◌, ◌*◌, ◌/◌, ◌<◌, ◌≤◌, length};
+ghost use Rattle.magnetar_field.specs.Number.{number_of};
+ghost use Rattle.magnetar_layout.specs.Tests.{first_refusal, column_tests, layout_tests, room_test};
 ghost use Rattle.magnetar_protocol.specs.Shape.{sizes_only};
 ghost use Rattle.magnetar_protocol.specs.RunTests.{counter_tests};
 ghost use Rattle.magnetar_prover.specs.Entries.{play_refusal, inner_rounds_refusal, count_tests, total_tests, outer_drawn, outer_sent, block_words, outer_rounds_refusal};
 
+use magnetar_field::refusal::{Refusal, require};
 use magnetar_field::sizes;
 use magnetar_hash::transcript::Transcript;
+use magnetar_layout::limits::{MOST_BATCH_ROWS, MOST_COLUMNS, MOST_LOGINS, MOST_ROWS};
 use magnetar_layout::{layout, tests};
 use magnetar_protocol::refusal;
 
 // 1, 8, 9 and 10.
-fn of_sizes(m: usize, lens: &[usize]) -> u32
-    ensures { result ≡ first_refusal 0 (column_tests m ++ layout_tests (m / 2) lens.now) }
+#[tactic(auto, using(crate::proofs::Guarded::sizing), unfolding(magnetar_layout::specs::Tests::or_refuse))]
+fn of_sizes(m: usize, lens: &[usize]) -> Result<(), Refusal>
+    ensures { number_of result ≡ first_refusal 0 (column_tests m ++ layout_tests (m / 2) lens.now) }
 {
-    let z = tests::refuse(0, 1, !tests::is_size(2, 65536, m));
-    if z != 0 {
-        return z;
-    }
+    require(tests::is_size(2, MOST_COLUMNS, m), Refusal::Size)?;
     layout::refusal(m / 2, lens)
 }
 
 // 14.
-fn of_counter(t: Transcript) -> u32
-    ensures { result ≡ first_refusal 0 (counter_tests t.squeeze_ctr) }
+#[tactic(auto, using(magnetar_layout::proofs::Passing::passing), unfolding(magnetar_layout::specs::Tests::or_refuse))]
+fn of_counter(t: Transcript) -> Result<(), Refusal>
+    ensures { number_of result ≡ first_refusal 0 (counter_tests t.squeeze_ctr) }
 {
-    tests::refuse(0, 14, !(t.squeeze_ctr < 0x100000000))
+    require(t.squeeze_ctr < 0x100000000, Refusal::Counter)
+}
+
+// 14, and 15 where fewer words are lent than are drawn, sent and worked in.
+#[tactic(auto, using(magnetar_layout::proofs::Passing::passing), unfolding(magnetar_layout::specs::Tests::or_refuse))]
+fn of_room(
+    t: Transcript,
+    draws: &[u64],
+    drawn: usize,
+    proof: &[u64],
+    sent: usize,
+    s: &[u64],
+    room: usize,
+) -> Result<(), Refusal>
+    ensures { number_of result ≡ first_refusal 0 (counter_tests t.squeeze_ctr ++ (room_test drawn draws.now ++ room_test sent proof.now ++ room_test room s.now)) }
+{
+    of_counter(t)?;
+    require(draws.len() >= drawn, Refusal::Room)?;
+    require(proof.len() >= sent, Refusal::Room)?;
+    require(s.len() >= room, Refusal::Room)
 }
 
 // The refusals of the inner rounds.
+#[tactic(auto, using(crate::proofs::Guarded::sizing), unfolding(magnetar_layout::specs::Tests::or_refuse, crate::specs::Entries::inner_rounds_refusal))]
 pub(crate) fn of_inner(
     m: usize,
     lens: &[usize],
@@ -36,32 +58,25 @@ pub(crate) fn of_inner(
     draws: &[u64],
     s: &[u64],
     t: Transcript,
-) -> u32
-    ensures { result ≡ inner_rounds_refusal m lens.now proof.now draws.now s.now t }
+) -> Result<(), Refusal>
+    ensures { number_of result ≡ inner_rounds_refusal m lens.now proof.now draws.now s.now t }
 {
-    let z = of_sizes(m, lens);
-    if z != 0 {
-        return z;
-    }
+    of_sizes(m, lens)?;
     let k = sizes::log2(m);
-    let y = of_counter(t);
-    let y = tests::refuse(y, 15, draws.len() < 2 * k);
-    let y = tests::refuse(y, 15, proof.len() < 2 * (3 * k + 1 + lens.len()));
-    tests::refuse(y, 15, s.len() < 6 * m)
+    let sent = 2 * (3 * k + 1 + lens.len());
+    of_room(t, draws, 2 * k, proof, sent, s, 6 * m)
 }
 
 // 1 and 4.
-fn of_counts(q: usize, rb: usize, rf: usize) -> u32
-    ensures { result ≡ first_refusal 0 (count_tests q rb rf ++ total_tests q rb rf) }
+#[tactic(auto, using(crate::proofs::OuterGuard::counting), unfolding(magnetar_layout::specs::Tests::or_refuse))]
+fn of_counts(q: usize, rb: usize, rf: usize) -> Result<(), Refusal>
+    ensures { number_of result ≡ first_refusal 0 (count_tests q rb rf ++ total_tests q rb rf) }
 {
-    let z = tests::refuse(0, 1, !tests::is_size(1, 4096, q));
-    let z = tests::refuse(z, 4, !tests::is_size(1, 65536, rb));
-    let z = tests::refuse(z, 4, !tests::is_size(1, 65536, rf));
-    if z != 0 {
-        return z;
-    }
-    let y = tests::refuse(0, 4, q * rb > 1048576);
-    tests::refuse(y, 4, q * rf > 1048576)
+    require(tests::is_size(1, MOST_LOGINS, q), Refusal::Size)?;
+    require(tests::is_size(1, MOST_ROWS, rb), Refusal::Rows)?;
+    require(tests::is_size(1, MOST_ROWS, rf), Refusal::Rows)?;
+    require(q * rb <= MOST_BATCH_ROWS, Refusal::Rows)?;
+    require(q * rf <= MOST_BATCH_ROWS, Refusal::Rows)
 }
 
 // The words of what is drawn in the outer rounds.
@@ -96,6 +111,22 @@ pub(crate) fn block_words(q: usize, rb: usize, rf: usize) -> usize
     8 * (q * rb) + 8 * (q * rf)
 }
 
+// 14, 15 where fewer words are lent than are drawn, and 16 where the words are not as many as are sent.
+#[tactic(auto, using(magnetar_layout::proofs::Passing::passing), unfolding(magnetar_layout::specs::Tests::or_refuse))]
+fn of_words(
+    t: Transcript,
+    draws: &[u64],
+    drawn: usize,
+    proof: &[u64],
+    sent: usize,
+) -> Result<(), Refusal>
+    ensures { number_of result ≡ first_refusal 0 (counter_tests t.squeeze_ctr ++ (room_test drawn draws.now ++ (16, not (eqb (length proof.now) sent)) ∷ [])) }
+{
+    of_counter(t)?;
+    require(draws.len() >= drawn, Refusal::Room)?;
+    require(proof.len() == sent, Refusal::ProofWords)
+}
+
 // The refusals of a schedule that is played.
 pub(crate) fn of_play(
     m: usize,
@@ -106,19 +137,17 @@ pub(crate) fn of_play(
     proof: &[u64],
     draws: &[u64],
     t: Transcript,
-) -> u32
-    ensures { result ≡ play_refusal (sizes_only m q rb rf lens.now) proof.now draws.now t }
+) -> Result<(), Refusal>
+    ensures { number_of result ≡ play_refusal (sizes_only m q rb rf lens.now) proof.now draws.now t }
 {
-    let z = refusal::outline_refusal(m, q, rb, rf, lens);
-    if z != 0 {
-        return z;
-    }
+    refusal::outline_refusal(m, q, rb, rf, lens)?;
     let c = sizes::log2(m);
-    let d = drawn_words(sizes::log2(q), sizes::log2(rb), sizes::log2(rf));
-    let a = sent_words(sizes::log2(q), sizes::log2(rb), sizes::log2(rf));
-    let y = of_counter(t);
-    let y = tests::refuse(y, 15, draws.len() < d + 2 * c);
-    tests::refuse(y, 16, proof.len() != a + 2 * (3 * c + 1 + lens.len()))
+    let l = sizes::log2(q);
+    let b = sizes::log2(rb);
+    let f = sizes::log2(rf);
+    let drawn = drawn_words(l, b, f) + 2 * c;
+    let sent = sent_words(l, b, f) + 2 * (3 * c + 1 + lens.len());
+    of_words(t, draws, drawn, proof, sent)
 }
 
 // The refusals of the outer rounds.
@@ -130,21 +159,15 @@ pub(crate) fn of_outer(
     draws: &[u64],
     s: &[u64],
     t: Transcript,
-) -> u32
-    ensures { result ≡ outer_rounds_refusal q rb rf proof.now draws.now s.now t }
+) -> Result<(), Refusal>
+    ensures { number_of result ≡ outer_rounds_refusal q rb rf proof.now draws.now s.now t }
 {
-    let z = of_counts(q, rb, rf);
-    if z != 0 {
-        return z;
-    }
+    of_counts(q, rb, rf)?;
     let l = sizes::log2(q);
     let b = sizes::log2(rb);
     let f = sizes::log2(rf);
-    let d = drawn_words(l, b, f);
-    let a = sent_words(l, b, f);
-    let e = block_words(q, rb, rf);
-    let y = of_counter(t);
-    let y = tests::refuse(y, 15, draws.len() < d);
-    let y = tests::refuse(y, 15, proof.len() < a);
-    tests::refuse(y, 15, s.len() < e)
+    let drawn = drawn_words(l, b, f);
+    let sent = sent_words(l, b, f);
+    let room = block_words(q, rb, rf);
+    of_room(t, draws, drawn, proof, sent, s, room)
 }

@@ -5,6 +5,7 @@ ghost use Rattle.magnetar_field.specs.Words.{elements, words};
 ghost use Rattle.magnetar_multilinear.specs.Multilinear.{dot, bind_var};
 ghost use Rattle.magnetar_field.specs.Tabulate.{tabulate};
 ghost use Rattle.magnetar_hash.specs.Bytes.{ascii};
+ghost use Rattle.magnetar_hash.specs.Transcript.{answer_of};
 ghost use Rattle.magnetar_layout.specs.Layout.{offset};
 ghost use Rattle.magnetar_layout.specs.Entries.{layout_refusal};
 ghost use Rattle.magnetar_schedule.specs.Schedule.{numbered};
@@ -16,9 +17,9 @@ ghost use Rattle.magnetar_prover.specs.InScratch.{steps_in, inner_in, Table, Loc
 
 use crate::{events, guard};
 use magnetar_field::gf128::{Gf128, ONE};
+use magnetar_field::refusal::Refusal;
 use magnetar_field::{sizes, words};
-use magnetar_hash::transcript;
-use magnetar_hash::transcript::{Transcript, TranscriptAnswer};
+use magnetar_hash::transcript::{self, Transcript};
 use magnetar_layout::layout;
 use magnetar_multilinear::eq::EqBits;
 use magnetar_multilinear::multilinear;
@@ -87,14 +88,11 @@ fn rounds(
     requires m_value { m ≡ 2 ^ k }
     ensures { inner_in m 2 (3 * k) k result proof.new draws.new s.new ≡ inner_steps k (inner_in m (2 * m) 0 0 t proof.old draws.old s.old) }
 {
-    let mut i = 0;
     let mut n = 2 * m;
     let mut u = t;
-    while i < k {
-        let v = round(i, m, n, proof, draws, s, u);
-        u = v;
-        n = n / 2;
-        i += 1;
+    for i in 0..k {
+        u = round(i, m, n, proof, draws, s, u);
+        n /= 2;
     }
     u
 }
@@ -104,11 +102,8 @@ fn copy_down(n: usize, s: &mut [u64])
     requires { (n ≤ 65536) × (3 * n ≤ length s.old) }
     ensures { s.new ≡ pasted (2 * n) n s.old }
 {
-    let mut i = 0;
-    while i < n {
-        let v = s[i];
-        s[2 * n + i] = v;
-        i += 1;
+    for i in 0..n {
+        s[2 * n + i] = s[i];
     }
 }
 
@@ -202,13 +197,9 @@ fn send_segments(
     requires locals { Locals w lens.now (length draws.now) }
     ensures { sent_in (k + length lens.now) result proof.new ≡ sent_each "vs-seg-" 0 (tabulate (segment_in lens.now (table_at 0 (2 * w) s.old) (elements draws.now)) (length lens.now)) (sent_in k t proof.old) }
 {
-    let mut i = 0;
     let mut u = t;
-    while i < lens.len() {
-        let p = k + i;
-        let v = send_segment(p, w, lens, i, proof, draws, s, u);
-        u = v;
-        i += 1;
+    for i in 0..lens.len() {
+        u = send_segment(k + i, w, lens, i, proof, draws, s, u);
     }
     u
 }
@@ -247,6 +238,7 @@ fn run(
 // challenges those of draws. s has the combined table in its first 2m words and the folded z in the 2m words behind; its first 6m words
 // are left zero.
 // 1: no such columns; 8, 9, 10: no such layout; 14: a counter of 2^32 or more; 15: draws, proof or s too short.
+#[tactic(auto, using(crate::proofs::Handed::handed_back))]
 pub fn inner_rounds(
     m: usize,
     lens: &[usize],
@@ -254,27 +246,17 @@ pub fn inner_rounds(
     draws: &mut [u64],
     s: &mut [u64],
     t: Transcript,
-) -> TranscriptAnswer
-    ensures answer { result ≡ answer_for (inner_rounds_refusal m lens.now proof.old draws.old s.old t) (inner_run_steps (sizes_only m 1 1 1 lens.now) s.old t) t }
+) -> Result<Transcript, Refusal>
+    ensures answer { answer_of t result ≡ answer_for (inner_rounds_refusal m lens.now proof.old draws.old s.old t) (inner_run_steps (sizes_only m 1 1 1 lens.now) s.old t) t }
     ensures proof { proof.new ≡ proof_for (inner_rounds_refusal m lens.now proof.old draws.old s.old t) (inner_run_steps (sizes_only m 1 1 1 lens.now) s.old t) proof.old }
     ensures draws { draws.new ≡ draws_for (inner_rounds_refusal m lens.now proof.old draws.old s.old t) (inner_run_steps (sizes_only m 1 1 1 lens.now) s.old t) draws.old }
     ensures scratch { s.new ≡ scratch_for (inner_rounds_refusal m lens.now proof.old draws.old s.old t) (6 * m) s.old }
 {
-    let z = guard::of_inner(m, lens, proof, draws, s, t);
-    if z != 0 {
-        return TranscriptAnswer {
-            code: z,
-            transcript: t,
-        };
-    }
+    guard::of_inner(m, lens, proof, draws, s, t)?;
     let k = sizes::log2(m);
     let w = m / 2;
     let a = 2 * (3 * k + 1 + lens.len());
     let d = 2 * k;
     let e = 6 * m;
-    let u = run(k, w, lens, &mut proof[..a], &mut draws[..d], &mut s[..e], t);
-    TranscriptAnswer {
-        code: 0,
-        transcript: u,
-    }
+    Ok(run(k, w, lens, &mut proof[..a], &mut draws[..d], &mut s[..e], t))
 }

@@ -3,45 +3,58 @@
 // wf words, behind it.
 ghost use Rattle.std.specs.Prelude.{◌≡◌, ◌+◌, ◌*◌, ◌^◌, ◌<◌, length, take, drop, replicate};
 ghost use Rattle.magnetar_field.specs.Gf128.{value};
+ghost use Rattle.magnetar_hash.specs.Transcript.{answer_of};
 ghost use Rattle.magnetar_schedule.specs.Stepwise.{shared_steps};
 ghost use Rattle.magnetar_prover.specs.Entries.{tables_in, answer_for, proof_for, draws_for, scratch_for, outer_rounds_refusal, outer_run_steps, block_words};
 ghost use Rattle.magnetar_prover.specs.InScratch.{steps_in};
 ghost use Rattle.magnetar_prover.specs.Shared.{shared_in};
 ghost use Rattle.magnetar_prover.specs.Whole.{taus_of, begin_of, bin_of, fld_of, end_of, outer_whole, left_in, Blocks};
 
+use crate::events::System;
+use crate::outer::Block;
 use crate::shared::{Both, Places};
 use crate::{ends, guard, outer, shared};
 use magnetar_field::gf128::{Gf128, ONE};
+use magnetar_field::refusal::Refusal;
 use magnetar_field::{sizes, words};
-use magnetar_hash::transcript::{Transcript, TranscriptAnswer};
+use magnetar_hash::transcript::Transcript;
 
-// The taus, their eq tables and the shared rounds.
-fn first(
+// The logarithms of the logins and of the rows of bin and of fld, and the words of a table of each block.
+#[derive(Clone, Copy)]
+struct Sizes {
     l: usize,
     b: usize,
     f: usize,
     wb: usize,
     wf: usize,
-    proof: &mut [u64],
-    draws: &mut [u64],
-    s: &mut [u64],
-    t: Transcript,
-) -> Both
-    requires { Blocks l b f wb wf (length proof.old) (length draws.old) (length s.old) }
-    ensures { shared_in (8 * l) (l + b + (l + f) + l) 0 b f 0 (l + b) (value result.kb) (value result.kf) wb wf (2 * 2 ^ b) (2 * 2 ^ f) result.transcript proof.new draws.new s.new ≡ shared_steps 0 l (begin_of l b (tables_in wb wf (take (4 * wb) s.old) (drop (4 * wb) s.old)) (taus_of l b f t)) }
+}
+
+// The taus, their eq tables and the shared rounds.
+fn first(z: Sizes, proof: &mut [u64], draws: &mut [u64], s: &mut [u64], t: Transcript) -> Both
+    requires { Blocks z.l z.b z.f z.wb z.wf (length proof.old) (length draws.old) (length s.old) }
+    ensures { shared_in (8 * z.l) (z.l + z.b + (z.l + z.f) + z.l) 0 z.b z.f 0 (z.l + z.b) (value result.kb) (value result.kf) z.wb z.wf (2 * 2 ^ z.b) (2 * 2 ^ z.f) result.transcript proof.new draws.new s.new ≡ shared_steps 0 z.l (begin_of z.l z.b (tables_in z.wb z.wf (take (4 * z.wb) s.old) (drop (4 * z.wb) s.old)) (taus_of z.l z.b z.f t)) }
 {
-    let m = l + b;
-    let n = l + f;
-    let d = m + n;
+    let m = z.l + z.b;
+    let n = z.l + z.f;
     let u = ends::taus(m, n, draws, t);
-    ends::begin_tables(m, n, wb, wf, draws, s);
+    ends::begin_tables(m, n, z.wb, z.wf, draws, s);
     let at = Places {
         o: 0,
         q: m,
         p: 0,
-        d: d,
+        d: m + n,
     };
-    shared::shared_rounds(l, b, f, at, wb, wb, ONE, wf, wf, ONE, proof, draws, s, u)
+    let bin = Block {
+        w: z.wb,
+        n: z.wb,
+        k: ONE,
+    };
+    let fld = Block {
+        w: z.wf,
+        n: z.wf,
+        k: ONE,
+    };
+    shared::shared_rounds(z.l, z.b, z.f, at, bin, fld, proof, draws, s, u)
 }
 
 // The words of a table of 2^n elements.
@@ -54,11 +67,7 @@ fn power_words(n: usize) -> usize
 
 // The row rounds of bin, then those of fld, with the products kb and kf over the shared variables.
 fn rows(
-    l: usize,
-    b: usize,
-    f: usize,
-    wb: usize,
-    wf: usize,
+    z: Sizes,
     kb: Gf128,
     kf: Gf128,
     proof: &mut [u64],
@@ -66,87 +75,65 @@ fn rows(
     s: &mut [u64],
     t: Transcript,
 ) -> Both
-    requires { Blocks l b f wb wf (length proof.old) (length draws.old) (length s.old) }
-    ensures { left_in (8 * l + 4 * b + 4 * f) (l + b + (l + f) + l + b + f) (value result.kb) (value result.kf) wb wf result.transcript proof.new draws.new s.new ≡ fld_of f (bin_of b (shared_in (8 * l) (l + b + (l + f) + l) 0 b f 0 (l + b) (value kb) (value kf) wb wf (2 * 2 ^ b) (2 * 2 ^ f) t proof.old draws.old s.old)) }
+    requires { Blocks z.l z.b z.f z.wb z.wf (length proof.old) (length draws.old) (length s.old) }
+    ensures { left_in (8 * z.l + 4 * z.b + 4 * z.f) (z.l + z.b + (z.l + z.f) + z.l + z.b + z.f) (value result.kb) (value result.kf) z.wb z.wf result.transcript proof.new draws.new s.new ≡ fld_of z.f (bin_of z.b (shared_in (8 * z.l) (z.l + z.b + (z.l + z.f) + z.l) 0 z.b z.f 0 (z.l + z.b) (value kb) (value kf) z.wb z.wf (2 * 2 ^ z.b) (2 * 2 ^ z.f) t proof.old draws.old s.old)) }
 {
-    let m = l + b;
-    let p = 8 * l;
-    let d = m + (l + f) + l;
-    let c = 4 * wb;
-    let z = c + 4 * wf;
-    let nb = power_words(b);
-    let nf = power_words(f);
-    let u = outer::rows(b, 0, p, d, wb, nb, kb, proof, draws, &mut s[..c], t, true);
-    let x = u.transcript;
+    let m = z.l + z.b;
+    let p = 8 * z.l;
+    let d = m + (z.l + z.f) + z.l;
+    let c = 4 * z.wb;
+    let e = c + 4 * z.wf;
+    let bin = Block {
+        w: z.wb,
+        n: power_words(z.b),
+        k: kb,
+    };
+    let fld = Block {
+        w: z.wf,
+        n: power_words(z.f),
+        k: kf,
+    };
+    let u = outer::rows(System::Bin, z.b, 0, p, d, bin, proof, draws, &mut s[..c], t);
     let v = outer::rows(
-        f,
+        System::Fld,
+        z.f,
         m,
-        p + 4 * b,
-        d + b,
-        wf,
-        nf,
-        kf,
+        p + 4 * z.b,
+        d + z.b,
+        fld,
         proof,
         draws,
-        &mut s[c..z],
-        x,
-        false,
+        &mut s[c..e],
+        u.transcript,
     );
-    let y = v.transcript;
-    let g = u.k;
-    let h = v.k;
     Both {
-        transcript: y,
-        kb: g,
-        kf: h,
+        transcript: v.transcript,
+        kb: u.k,
+        kf: v.k,
     }
 }
 
 // The terminals are sent, and the alphas drawn.
-fn end(
-    l: usize,
-    b: usize,
-    f: usize,
-    wb: usize,
-    wf: usize,
-    proof: &mut [u64],
-    draws: &mut [u64],
-    s: &[u64],
-    t: Transcript,
-) -> Transcript
-    requires { Blocks l b f wb wf (length proof.old) (length draws.old) (length s.now) }
-    ensures { steps_in (8 * l + 4 * b + 4 * f + 6) (l + b + (l + f) + l + b + f + 6) result proof.new draws.new ≡ end_of (left_in (8 * l + 4 * b + 4 * f) (l + b + (l + f) + l + b + f) 1 1 wb wf t proof.old draws.old s.now) }
+fn end(z: Sizes, proof: &mut [u64], draws: &mut [u64], s: &[u64], t: Transcript) -> Transcript
+    requires { Blocks z.l z.b z.f z.wb z.wf (length proof.old) (length draws.old) (length s.now) }
+    ensures { steps_in (8 * z.l + 4 * z.b + 4 * z.f + 6) (z.l + z.b + (z.l + z.f) + z.l + z.b + z.f + 6) result proof.new draws.new ≡ end_of (left_in (8 * z.l + 4 * z.b + 4 * z.f) (z.l + z.b + (z.l + z.f) + z.l + z.b + z.f) 1 1 z.wb z.wf t proof.old draws.old s.now) }
 {
-    let p = 8 * l + 4 * b + 4 * f;
-    let d = l + b + (l + f) + l + b + f;
-    let c = 4 * wb;
-    let u = ends::terminals(p, wb, wf, proof, &s[..c], &s[c..], t);
+    let p = 8 * z.l + 4 * z.b + 4 * z.f;
+    let d = z.l + z.b + (z.l + z.f) + z.l + z.b + z.f;
+    let c = 4 * z.wb;
+    let u = ends::terminals(p, z.wb, z.wf, proof, &s[..c], &s[c..], t);
     ends::draw_alphas(d, draws, u)
 }
 
 // All of it; the blocks are cleared.
-fn run(
-    l: usize,
-    b: usize,
-    f: usize,
-    wb: usize,
-    wf: usize,
-    proof: &mut [u64],
-    draws: &mut [u64],
-    s: &mut [u64],
-    t: Transcript,
-) -> Transcript
-    requires { Blocks l b f wb wf (length proof.old) (length draws.old) (length s.old) }
-    ensures run { steps_in (8 * l + 4 * b + 4 * f + 6) (l + b + (l + f) + l + b + f + 6) result proof.new draws.new ≡ outer_whole l b f (tables_in wb wf (take (4 * wb) s.old) (drop (4 * wb) s.old)) t }
+fn run(z: Sizes, proof: &mut [u64], draws: &mut [u64], s: &mut [u64], t: Transcript) -> Transcript
+    requires { Blocks z.l z.b z.f z.wb z.wf (length proof.old) (length draws.old) (length s.old) }
+    ensures run { steps_in (8 * z.l + 4 * z.b + 4 * z.f + 6) (z.l + z.b + (z.l + z.f) + z.l + z.b + z.f + 6) result proof.new draws.new ≡ outer_whole z.l z.b z.f (tables_in z.wb z.wf (take (4 * z.wb) s.old) (drop (4 * z.wb) s.old)) t }
     ensures cleared { s.new ≡ replicate (length s.old) 0 }
 {
-    let u = first(l, b, f, wb, wf, proof, draws, s, t);
-    let g = u.kb;
-    let h = u.kf;
-    let x = u.transcript;
-    let v = rows(l, b, f, wb, wf, g, h, proof, draws, s, x);
-    let y = v.transcript;
-    let r = end(l, b, f, wb, wf, proof, draws, s, y);
+    let u = first(z, proof, draws, s, t);
+    let v = rows(z, u.kb, u.kf, proof, draws, s, u.transcript);
+    let r = end(z, proof, draws, s, v.transcript);
     words::clear(s);
     r
 }
@@ -155,6 +142,7 @@ fn run(
 // words of s, those of fld in the second to fourth table of 2 q rf words behind its first 8 q rb. What is sent goes to the front of
 // proof, what is drawn to the front of draws; the 8 q (rb + rf) words of s are cleared.
 // 1: no such logins; 4: no such rows; 14: a counter of 2^32 or more; 15: too little room.
+#[tactic(auto, using(crate::proofs::Handed::handed_back))]
 pub fn outer_rounds(
     q: usize,
     rb: usize,
@@ -163,19 +151,13 @@ pub fn outer_rounds(
     draws: &mut [u64],
     s: &mut [u64],
     t: Transcript,
-) -> TranscriptAnswer
-    ensures answer { result ≡ answer_for (outer_rounds_refusal q rb rf proof.old draws.old s.old t) (outer_run_steps q rb rf s.old t) t }
+) -> Result<Transcript, Refusal>
+    ensures answer { answer_of t result ≡ answer_for (outer_rounds_refusal q rb rf proof.old draws.old s.old t) (outer_run_steps q rb rf s.old t) t }
     ensures proof { proof.new ≡ proof_for (outer_rounds_refusal q rb rf proof.old draws.old s.old t) (outer_run_steps q rb rf s.old t) proof.old }
     ensures draws { draws.new ≡ draws_for (outer_rounds_refusal q rb rf proof.old draws.old s.old t) (outer_run_steps q rb rf s.old t) draws.old }
     ensures scratch { s.new ≡ scratch_for (outer_rounds_refusal q rb rf proof.old draws.old s.old t) (block_words q rb rf) s.old }
 {
-    let z = guard::of_outer(q, rb, rf, proof, draws, s, t);
-    if z != 0 {
-        return TranscriptAnswer {
-            code: z,
-            transcript: t,
-        };
-    }
+    guard::of_outer(q, rb, rf, proof, draws, s, t)?;
     let l = sizes::log2(q);
     let b = sizes::log2(rb);
     let f = sizes::log2(rf);
@@ -184,19 +166,6 @@ pub fn outer_rounds(
     let e = guard::block_words(q, rb, rf);
     let wb = guard::table_words(q, rb);
     let wf = guard::table_words(q, rf);
-    let u = run(
-        l,
-        b,
-        f,
-        wb,
-        wf,
-        &mut proof[..a],
-        &mut draws[..d],
-        &mut s[..e],
-        t,
-    );
-    TranscriptAnswer {
-        code: 0,
-        transcript: u,
-    }
+    let z = Sizes { l, b, f, wb, wf };
+    Ok(run(z, &mut proof[..a], &mut draws[..d], &mut s[..e], t))
 }

@@ -3,17 +3,19 @@ ghost use Rattle.std.specs.Prelude.{◌≡◌, List, [], ◌∷◌, ◌++◌, �
 ghost use Rattle.magnetar_field.specs.Gf128.{value};
 ghost use Rattle.magnetar_field.specs.Words.{elements, words, overlaid};
 ghost use Rattle.magnetar_hash.specs.Bytes.{ascii};
-ghost use Rattle.magnetar_hash.specs.Transcript.{element};
-ghost use Rattle.magnetar_schedule.specs.Schedule.{absorb, draw, decimal, rounds, singles, schedule};
+ghost use Rattle.magnetar_hash.specs.Transcript.{answer_of, element};
+ghost use Rattle.magnetar_schedule.specs.Schedule.{absorb, draw, rounds, singles, schedule};
 ghost use Rattle.magnetar_protocol.specs.Shape.{sizes_only};
 ghost use Rattle.magnetar_schedule.specs.ScheduleRun.{run_from};
 ghost use Rattle.magnetar_prover.specs.Entries.{play_answer, play_draws};
+ghost use Rattle.magnetar_prover.specs.Labels.{IsShort, label_bytes};
 ghost use Rattle.magnetar_prover.specs.Stages.{Adds, Runs, OuterRuns, InnerRuns};
 
-use crate::{events, guard};
+use crate::events::{self, Label};
+use crate::guard;
+use magnetar_field::refusal::Refusal;
 use magnetar_field::sizes;
-use magnetar_hash::transcript;
-use magnetar_hash::transcript::{Transcript, TranscriptAnswer};
+use magnetar_hash::transcript::{self, Transcript};
 
 // As many events as no schedule has: of q up to 4096, m and rows up to 65536, and 64 segments. `run_events` up to here plays all of them.
 pub const ALL_EVENTS: usize = 65536;
@@ -56,28 +58,15 @@ fn drawn_to(s: Stage, u: Transcript, out: &mut [u64]) -> Stage
     }
 }
 
-// A draw under a label, where an event is left.
-fn draw_one(s: Stage, label: &[u8], out: &mut [u64]) -> Stage
-    ensures { (w : List ℕ) (next : ℕ) → Runs w (draw label.now ∷ []) next next s out.old result out.new }
+// A draw as event i under a label, where an event is left.
+fn draw_one(s: Stage, label: Label, i: usize, out: &mut [u64]) -> Stage
+    requires { IsShort label }
+    ensures { (w : List ℕ) (next : ℕ) → Runs w (draw (label_bytes label.entry i) ∷ []) next next s out.old result out.new }
 {
     if s.left == 0 {
         return s;
     }
-    let t = s.transcript;
-    let u = transcript::draw(t, label);
-    drawn_to(s, u, out)
-}
-
-// A draw under a label with a number behind it, where an event is left.
-fn draw_next(s: Stage, prefix: &[u8], i: usize, out: &mut [u64]) -> Stage
-    requires { length prefix.now ≤ 28 }
-    ensures { (w : List ℕ) (next : ℕ) → Runs w (draw (prefix.now ++ decimal 20 i) ∷ []) next next s out.old result out.new }
-{
-    if s.left == 0 {
-        return s;
-    }
-    let t = s.transcript;
-    let u = events::draw_numbered(t, prefix, i);
+    let u = events::draw(s.transcript, label, i);
     drawn_to(s, u, out)
 }
 
@@ -86,12 +75,13 @@ fn ahead(place: usize, k: usize, n: usize) -> usize
     requires { place ≤ n }
     ensures { result ≡ place + min k (n - place) }
 {
-    if k < n - place { place + k } else { n }
+    place + k.min(n - place)
 }
 
-// The next elements are absorbed under a label, where an event is left.
-fn absorb_one(s: Stage, label: &[u8], k: usize, proof: &[u64]) -> Stage
-    ensures { (next : ℕ) (out : List ℕ) → Runs (elements proof.now) (absorb label.now next k ∷ []) next (next + k) s out result out }
+// The next k elements are absorbed as event i under a label, where an event is left.
+fn absorb_one(s: Stage, label: Label, i: usize, k: usize, proof: &[u64]) -> Stage
+    requires { IsShort label }
+    ensures { (next : ℕ) (out : List ℕ) → Runs (elements proof.now) (absorb (label_bytes label.entry i) next k ∷ []) next (next + k) s out result out }
 {
     if s.left == 0 {
         return s;
@@ -99,31 +89,8 @@ fn absorb_one(s: Stage, label: &[u8], k: usize, proof: &[u64]) -> Stage
     let n = proof.len() / 2;
     let a = ahead(0, s.place, n);
     let b = ahead(a, k, n);
-    let t = s.transcript;
-    let u = transcript::absorb_words(t, label, &proof[2 * a..2 * b]);
     Stage {
-        transcript: u,
-        written: s.written,
-        place: b,
-        left: s.left - 1,
-    }
-}
-
-// The next elements are absorbed under a label with a number behind it, where an event is left.
-fn absorb_next(s: Stage, prefix: &[u8], i: usize, k: usize, proof: &[u64]) -> Stage
-    requires { length prefix.now ≤ 28 }
-    ensures { (next : ℕ) (out : List ℕ) → Runs (elements proof.now) (absorb (prefix.now ++ decimal 20 i) next k ∷ []) next (next + k) s out result out }
-{
-    if s.left == 0 {
-        return s;
-    }
-    let n = proof.len() / 2;
-    let a = ahead(0, s.place, n);
-    let b = ahead(a, k, n);
-    let t = s.transcript;
-    let u = events::absorb_numbered(t, prefix, i, &proof[2 * a..2 * b]);
-    Stage {
-        transcript: u,
+        transcript: events::absorb(s.transcript, label, i, &proof[2 * a..2 * b]),
         written: s.written,
         place: b,
         left: s.left - 1,
@@ -135,78 +102,45 @@ fn draw_times(s: Stage, label: &[u8], n: usize, out: &mut [u64]) -> Stage
     ensures { (w : List ℕ) (next : ℕ) → Runs w (replicate n (draw label.now)) next next s out.old result out.new }
 {
     let mut u = s;
-    let mut i = 0;
-    while i < n {
-        let v = draw_one(u, label, out);
-        u = v;
-        i += 1;
+    for i in 0..n {
+        u = draw_one(u, Label::Whole(label), i, out);
     }
     u
 }
 
 // Round i: its message of k elements is absorbed, and its challenge drawn.
-fn round(s: Stage, prefix: &[u8], i: usize, k: usize, proof: &[u64], out: &mut [u64]) -> Stage
-    requires { length prefix.now ≤ 28 }
+fn round(s: Stage, label: Label, i: usize, k: usize, proof: &[u64], out: &mut [u64]) -> Stage
+    requires { IsShort label }
     ensures { (next : ℕ) → Runs (elements proof.now)
-        (absorb (prefix.now ++ decimal 20 i) next k ∷ draw (prefix.now ++ decimal 20 i) ∷ [])
+        (absorb (label_bytes label.entry i) next k ∷ draw (label_bytes label.entry i) ∷ [])
         next (next + k) s out.old result out.new }
 {
-    let a = absorb_next(s, prefix, i, k, proof);
-    draw_next(a, prefix, i, out)
+    let a = absorb_one(s, label, i, k, proof);
+    draw_one(a, label, i, out)
 }
 
 // n rounds.
-fn run_rounds(s: Stage, prefix: &[u8], k: usize, n: usize, proof: &[u64], out: &mut [u64]) -> Stage
-    requires { length prefix.now ≤ 28 }
-    ensures { (first : ℕ) → Runs (elements proof.now) (rounds (λ i. prefix.now ++ decimal 20 i) first k 0 n)
+fn run_rounds(s: Stage, label: Label, k: usize, n: usize, proof: &[u64], out: &mut [u64]) -> Stage
+    requires { IsShort label }
+    ensures { (first : ℕ) → Runs (elements proof.now) (rounds (label_bytes label.entry) first k 0 n)
         first (first + k * n) s out.old result out.new }
 {
     let mut u = s;
-    let mut i = 0;
-    while i < n {
-        let v = round(u, prefix, i, k, proof, out);
-        u = v;
-        i += 1;
-    }
-    u
-}
-
-// An inner round.
-fn inner_round(s: Stage, proof: &[u64], out: &mut [u64]) -> Stage
-    ensures { (next : ℕ) → Runs (elements proof.now) (absorb (ascii "vs-inner") next 3 ∷ draw (ascii "vs-inner") ∷ [])
-        next (next + 3) s out.old result out.new }
-{
-    let a = absorb_one(s, b"vs-inner", 3, proof);
-    draw_one(a, b"vs-inner", out)
-}
-
-// n inner rounds.
-fn inner_rounds(s: Stage, n: usize, proof: &[u64], out: &mut [u64]) -> Stage
-    ensures { (first : ℕ) → Runs (elements proof.now) (rounds (λ _. ascii "vs-inner") first 3 0 n)
-        first (first + 3 * n) s out.old result out.new }
-{
-    let mut u = s;
-    let mut i = 0;
-    while i < n {
-        let v = inner_round(u, proof, out);
-        u = v;
-        i += 1;
+    for i in 0..n {
+        u = round(u, label, i, k, proof, out);
     }
     u
 }
 
 // n elements are absorbed one by one.
-fn run_singles(s: Stage, prefix: &[u8], n: usize, proof: &[u64]) -> Stage
-    requires { length prefix.now ≤ 28 }
-    ensures { (first : ℕ) (out : List ℕ) → Runs (elements proof.now) (singles (λ i. prefix.now ++ decimal 20 i) first 0 n)
+fn run_singles(s: Stage, label: Label, n: usize, proof: &[u64]) -> Stage
+    requires { IsShort label }
+    ensures { (first : ℕ) (out : List ℕ) → Runs (elements proof.now) (singles (label_bytes label.entry) first 0 n)
         first (first + n) s out result out }
 {
     let mut u = s;
-    let mut i = 0;
-    while i < n {
-        let v = absorb_next(u, prefix, i, 1, proof);
-        u = v;
-        i += 1;
+    for i in 0..n {
+        u = absorb_one(u, label, i, 1, proof);
     }
     u
 }
@@ -218,20 +152,20 @@ fn outer(s: Stage, a: usize, b: usize, f: usize, proof: &[u64], out: &mut [u64])
 {
     let c = draw_times(s, b"vs-tau-bin", a + b, out);
     let d = draw_times(c, b"vs-tau-fld", a + f, out);
-    let e = run_rounds(d, b"vs-out-shared-", 8, a, proof, out);
-    let g = run_rounds(e, b"vs-out-rowbin-", 4, b, proof, out);
-    run_rounds(g, b"vs-out-rowfld-", 4, f, proof, out)
+    let e = run_rounds(d, Label::Numbered(b"vs-out-shared-"), 8, a, proof, out);
+    let g = run_rounds(e, Label::Numbered(b"vs-out-rowbin-"), 4, b, proof, out);
+    run_rounds(g, Label::Numbered(b"vs-out-rowfld-"), 4, f, proof, out)
 }
 
 // The terminals, the draws of the alphas, c rounds of the inner sum-check, the value of z and n values of segments.
 fn inner(s: Stage, c: usize, n: usize, proof: &[u64], out: &mut [u64]) -> Stage
     ensures { InnerRuns (elements proof.now) c n s out.old result out.new }
 {
-    let d = run_singles(s, b"vs-terminal-", 6, proof);
+    let d = run_singles(s, Label::Numbered(b"vs-terminal-"), 6, proof);
     let e = draw_times(d, b"vs-alpha", 6, out);
-    let f = inner_rounds(e, c, proof, out);
-    let g = absorb_one(f, b"vs-vz", 1, proof);
-    run_singles(g, b"vs-seg-", n, proof)
+    let f = run_rounds(e, Label::Whole(b"vs-inner"), 3, c, proof, out);
+    let g = absorb_one(f, Label::Whole(b"vs-vz"), 0, 1, proof);
+    run_singles(g, Label::Numbered(b"vs-seg-"), n, proof)
 }
 
 // The first `to` events of the schedule of these sizes, played with the proof's elements; the words of the elements drawn are
@@ -273,6 +207,7 @@ fn events_to(
 // of a proof; the words of the elements drawn are written to the front of `draws`.
 // 1: no such columns or logins; 4: no such rows; 8, 9, 10: no such layout over m / 2 columns; 14: the counter is 2^32 or more; 15: draws
 // shorter than all that a run draws; 16: not the words of a proof.
+#[tactic(auto, using(crate::proofs::Handed::handed_back), unfolding(crate::specs::Entries::play_answer, crate::specs::Entries::play_draws))]
 pub fn run_events(
     m: usize,
     q: usize,
@@ -283,20 +218,10 @@ pub fn run_events(
     draws: &mut [u64],
     t: Transcript,
     to: usize,
-) -> TranscriptAnswer
-    ensures answer { result ≡ play_answer (sizes_only m q rb rf lens.now) proof.now draws.old to t }
+) -> Result<Transcript, Refusal>
+    ensures answer { answer_of t result ≡ play_answer (sizes_only m q rb rf lens.now) proof.now draws.old to t }
     ensures draws { draws.new ≡ play_draws (sizes_only m q rb rf lens.now) proof.now draws.old to t }
 {
-    let z = guard::of_play(m, q, rb, rf, lens, proof, draws, t);
-    if z != 0 {
-        return TranscriptAnswer {
-            code: z,
-            transcript: t,
-        };
-    }
-    let u = events_to(m, q, rb, rf, lens, proof, draws, t, to);
-    TranscriptAnswer {
-        code: 0,
-        transcript: u,
-    }
+    guard::of_play(m, q, rb, rf, lens, proof, draws, t)?;
+    Ok(events_to(m, q, rb, rf, lens, proof, draws, t, to))
 }

@@ -2,10 +2,10 @@ use Rattle.magnetar_hash.specs.Bytes.{ascii}
 use Rattle.magnetar_schedule.specs.Schedule.{numbered}
 use Rattle.magnetar_prover.proofs.events.row_round.Goals as goal
 
-pub returns-then-bin : goal.returns-then-bin
+pub returns-in-Bin : goal.returns-in-Bin
 unfolding ascii numbered
-returns-then-bin c = rw c.if-bin.true c.round.ensures
+returns-in-Bin c = rw c.in-Bin.is c.round.ensures
 
-pub returns : goal.returns
+pub returns-in-Fld : goal.returns-in-Fld
 unfolding ascii numbered
-returns c = rw c.if-bin.false c.round-2.ensures
+returns-in-Fld c = rw c.in-Fld.is c.round-in-Fld.ensures

@@ -4,4 +4,4 @@ use Rattle.magnetar_prover.proofs.events.segment.Goals as goal
 
 pub returns : goal.returns
 unfolding ascii numbered
-returns c = c.absorb_numbered.ensures
+returns c = c.absorb.ensures

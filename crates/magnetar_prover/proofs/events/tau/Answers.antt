@@ -1,10 +1,10 @@
 use Rattle.magnetar_hash.specs.Bytes.{ascii}
 use Rattle.magnetar_prover.proofs.events.tau.Goals as goal
 
-pub returns-then-bin : goal.returns-then-bin
+pub returns-in-Bin : goal.returns-in-Bin
 unfolding ascii
-returns-then-bin c = rw c.if-bin.true c.draw_vec.ensures
+returns-in-Bin c = rw c.in-Bin.is c.draw_vec.ensures
 
-pub returns : goal.returns
+pub returns-in-Fld : goal.returns-in-Fld
 unfolding ascii
-returns c = rw c.if-bin.false c.draw_vec-2.ensures
+returns-in-Fld c = rw c.in-Fld.is c.draw_vec-in-Fld.ensures

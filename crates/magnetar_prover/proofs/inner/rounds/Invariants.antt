@@ -1,13 +1,7 @@
-use Prim.Native.Nat.{◌*◌, ◌-◌, ◌≤◌}
+use Prim.Native.Nat.{◌*◌, ◌≤◌}
 use Rattle.magnetar_prover.proofs.InnerSteps.{Inners}
 use Rattle.magnetar_prover.specs.InScratch.{inner_in}
-use lib.ListN.{length}
-use mathlib.Core.Path.{◌≡◌}
 use Rattle.magnetar_prover.proofs.inner.rounds.Given as goal
 
 abbrev pub invariant-loop-i : goal.invariant-loop-i
-invariant-loop-i l = (l.i ≤ l.k) × (length l.proof ≡ length l.initial.proof) × (length l.draws ≡ length l.initial.draws) × (length l.s ≡
-    length l.initial.s) × (l.n ≤ 2 * l.m) × Inners l.k (inner_in l.m (2 * l.m) 0 0 l.initial.u l.initial.proof l.initial.draws l.initial.s) l.i l.n (inner_in l.m l.n (3 * l.i) l.i l.u l.proof l.draws l.s)
-
-abbrev pub decreases-loop-i : goal.decreases-loop-i
-decreases-loop-i l = l.k - l.i
+invariant-loop-i l = (l.n ≤ 2 * l.m) × Inners l.k (inner_in l.m (2 * l.m) 0 0 l.initial.u l.initial.proof l.initial.draws l.initial.s) l.i l.n (inner_in l.m l.n (3 * l.i) l.i l.u l.proof l.draws l.s)

@@ -2,7 +2,7 @@ use Prim.Native.Nat.{◌*◌, ◌+◌, ◌≤◌}
 use Rattle.magnetar_prover.proofs.Segments.{columns-kept, local-point, segment-sum}
 use lib.ListN.{get_or, length}
 use lib.Seq.{length-take-le}
-use Rattle.magnetar_r1cs.proofs.Points.{eq-built}
+use Rattle.magnetar_prover.proofs.EqTablePlaced.{eq-built}
 use mathlib.Core.Path.{◌∙◌, refl, sym}
 use native.Mathlib.Omega.{arith}
 use Rattle.magnetar_prover.proofs.inner.segment_value.Goals as goal

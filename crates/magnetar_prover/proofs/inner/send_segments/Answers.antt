@@ -5,7 +5,6 @@ use Rattle.magnetar_schedule.specs.Schedule.{numbered}
 use Rattle.magnetar_prover.proofs.Segments.{each-done, each_more, each-start-at}
 use Rattle.magnetar_prover.specs.Entries.{table_at}
 use Rattle.magnetar_prover.specs.InScratch.{absorbed_one, sent_in, segment_in}
-use borrow.Author.Rules.{rules}
 use lib.ListN.{length, take}
 use mathlib.Core.List.{List, [], ◌++◌, ◌∷◌}
 use mathlib.Core.Path.{◌∙◌, ap, refl}
@@ -14,15 +13,12 @@ use Rattle.magnetar_prover.proofs.inner.send_segments.Goals as goal
 
 pub loop-i-init : goal.loop-i-init
 loop-i-init c = let x = c.args in (
-  search rules,
-  refl,
-  refl,
   refl,
   each-start-at "vs-seg-" (tabulate (segment_in x.lens.now (table_at 0 (2 * x.w) x.s.now) (elements x.draws.now)) (length x.lens.now)) x.k x.t x.proof.now,
 )
 
-pub send_segment-v-requires : goal.send_segment-v-requires
-send_segment-v-requires c = let l = c.loop-i in let p = c.requires in record {
+pub send_segment-u-requires : goal.send_segment-u-requires
+send_segment-u-requires c = let l = c.loop-i in let p = c.requires in record {
   p_bound = (omega arith, omega arith, omega arith, p.k_bound.4, omega arith, omega arith);
   local = p.locals.each l.i (omega arith);
 }
@@ -30,14 +26,11 @@ send_segment-v-requires c = let l = c.loop-i in let p = c.requires in record {
 pub loop-i-preserved : goal.loop-i-preserved
 loop-i-preserved c = let l = c.loop-i in
     let x = c.args in
-    let e = c.send_segment-v.ensures in
-    let f = ap (λ (g : List ℕ). segment_in x.lens.now g (elements x.draws.now) l.i) l.invariant.3 in (
-      search rules,
-      search rules,
-      search rules,
-      e.kept ∙ l.invariant.3,
+    let e = c.send_segment-u.ensures in
+    let f = ap (λ (g : List ℕ). segment_in x.lens.now g (elements x.draws.now) l.i) l.invariant.0 in (
+      e.kept ∙ l.invariant.0,
       each_more "vs-seg-" (segment_in x.lens.now (table_at 0 (2 * x.w) x.s.now) (elements x.draws.now)) (length x.lens.now) l.i
-          x.k (sent_in x.k x.t x.proof.now) l.u c.send_segment-v.result l.proof c.send_segment-v.new.proof l.invariant.4 (omega arith)
+          x.k (sent_in x.k x.t x.proof.now) l.u c.send_segment-u.result l.proof c.send_segment-u.new.proof l.invariant.1 (omega arith)
           (e.transcript ∙ ap (absorbed_one l.u (numbered "vs-seg-" l.i)) f)
           (e.sent ∙ ap (λ (v : ℕ). take (x.k + l.i) (elements l.proof) ++ (v ∷ [])) f),
     )
@@ -46,4 +39,4 @@ pub returns : goal.returns
 returns c = let l = c.loop-i in
     let x = c.args in
     each-done "vs-seg-" (segment_in x.lens.now (table_at 0 (2 * x.w) x.s.now) (elements x.draws.now)) (length x.lens.now) l.i
-    x.k (sent_in x.k x.t x.proof.now) l.u l.proof l.invariant.4 (omega arith)
+    x.k (sent_in x.k x.t x.proof.now) l.u l.proof l.invariant.1 (omega arith)

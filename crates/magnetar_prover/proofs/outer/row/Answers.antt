@@ -19,8 +19,8 @@ message-requires c = let x = c.args in let p = c.requires in record {
   table = p.rows.table;
 }
 
-pub end_round-y-requires : goal.end_round-y-requires
-end_round-y-requires c = let p = c.requires in record {
+pub end-k-requires : goal.end-k-requires
+end-k-requires c = let p = c.requires in record {
   s_len = (c.message.auto.s ∙ p.s_len.0, p.s_len.1, p.s_len.2, p.s_len.5);
   table = p.rows.table;
 }
@@ -28,13 +28,13 @@ end_round-y-requires c = let p = c.requires in record {
 pub returns : goal.returns
 returns c = let x = c.args in
     let p = c.requires in
-    let m = outer_message 0 (value x.k) (value c.get-tau.result) (drop_var 0 (table_at 0 x.n x.s.now)) (table_at x.w x.n x.s.now)
-    (table_at (2 * x.w) x.n x.s.now) (table_at (3 * x.w) x.n x.s.now) in
+    let m = outer_message 0 (value x.at.k) (value c.get.result) (drop_var 0 (table_at 0 x.at.n x.s.now)) (table_at x.at.w x.at.n x.s.now)
+    (table_at (2 * x.at.w) x.at.n x.s.now) (table_at (3 * x.at.w) x.at.n x.s.now) in
     let g = c.message.ensures in
-    let h = c.end_round-y.ensures in
+    let h = c.end-k.ensures in
     let there = sent-there x.proof.now c.message.new.out m (2 * x.p) 8 x.p 4 refl refl p.s_len.4 (outer-four 0 _ _ _ _ _ _) g.written in
     let l : x.d ≤ length (elements x.draws.now) = rw elements-length (omega (arith, p.s_len.5)) in
-    row_done (row_label x.bin) x.i x.p x.d x.o (value x.k) (value c.end_round-y.result) (value c.get-tau.result) x.w x.n x.t c.row_round-u.result x.proof.now _ x.draws.now c.end_round-y.new.draws x.s.now c.message.new.s c.end_round-y.new.s
-    p.rows p.s_len.2 l c.get-tau.ensures (c.row_round-u.ensures ∙ rw there)
+    row_done (row_label x.of) x.i x.p x.d x.o (value x.at.k) (value c.end-k.result) (value c.get.result) x.at.w x.at.n x.t c.row_round-transcript.result x.proof.now _ x.draws.now c.end-k.new.draws x.s.now c.message.new.s c.end-k.new.s
+    p.rows p.s_len.2 l c.get.ensures (c.row_round-transcript.ensures ∙ rw there)
     (sent-more x.proof.now c.message.new.out m (2 * x.p) 8 x.p 4 refl refl p.s_len.4 (outer-four 0 _ _ _ _ _ _) g.written)
-    h.drawn h.k g.dropped g.kept h.e h.a h.b h.c
+    h.drawn h.k g.dropped.dropped g.dropped.kept h.folded.e h.folded.a h.folded.b h.folded.c

@@ -1,20 +1,14 @@
 use Rattle.magnetar_field.specs.Gf128.{value}
 use Rattle.magnetar_prover.proofs.RowSteps.{rowing-end, rowing-next, rowing-rows, rowing_start}
 use Rattle.magnetar_prover.specs.Labels.{row_label}
-use borrow.Author.Rules.{rules}
-use mathlib.Core.Path.{refl}
 use native.Mathlib.Omega.{arith}
 use Rattle.magnetar_prover.proofs.outer.rows.Goals as goal
 
 pub loop-i-init : goal.loop-i-init
 loop-i-init c = let x = c.args in (
-  search rules,
-  refl,
-  refl,
-  refl,
   c.requires.s_len.2,
   rowing_start
-      (row_label x.bin) x.x x.n x.p x.d x.o (value x.k) x.w x.t x.proof.now x.draws.now x.s.now c.requires.n_value,
+      (row_label x.of) x.x x.at.n x.p x.d x.o (value x.at.k) x.at.w x.t x.proof.now x.draws.now x.s.now c.requires.n_value,
 )
 
 pub row-r-requires : goal.row-r-requires
@@ -22,26 +16,22 @@ row-r-requires c = let x = c.args in let p = c.requires.s_len in let l = c.loop-
   s_len = (
     omega arith,
     p.1,
-    l.invariant.4,
+    l.invariant.0,
     omega arith,
     omega
         arith,
     omega arith,
   );
-  rows = rowing-rows x.o x.d l.invariant.5 (omega arith) p.3 p.6;
+  rows = rowing-rows x.o x.d l.invariant.1 (omega arith) p.3 p.6;
 }
 
 pub loop-i-preserved : goal.loop-i-preserved
 loop-i-preserved c = let l = c.loop-i in
     let x = c.args in (
-      search rules,
-      search rules,
-      search rules,
-      search rules,
       omega arith,
-      rowing-next x.p x.d x.o (value c.row-r.result.k) x.w c.row-r.result.transcript c.row-r.new.proof c.row-r.new.draws c.row-r.new.s l.invariant.5 (omega arith) c.row-r.ensures,
+      rowing-next x.p x.d x.o (value c.row-r.result.k) x.at.w c.row-r.result.transcript c.row-r.new.proof c.row-r.new.draws c.row-r.new.s l.invariant.1 (omega arith) c.row-r.ensures,
     )
 
 pub returns : goal.returns
-returns c = let x = c.args in let l = c.loop-i in rowing-end (row_label x.bin) x.x l.i l.m
-    x.p x.d x.o (value l.y) x.w _ l.u l.proof l.draws l.s l.invariant.5 (omega arith)
+returns c = let x = c.args in let l = c.loop-i in rowing-end (row_label x.of) x.x l.i l.n
+    x.p x.d x.o (value l.k) x.at.w _ l.u l.proof l.draws l.s l.invariant.1 (omega arith)

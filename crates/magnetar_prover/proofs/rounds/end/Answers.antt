@@ -10,12 +10,12 @@ pub slice_bounds-terminals-end : goal.slice_bounds-terminals-end
 slice_bounds-terminals-end c = sym (length-take-le _ _ (omega (arith, c.requires.blocks)))
 
 pub returns : goal.returns
-returns c = end-left c.args.l c.args.b c.args.f c.args.wb c.args.wf (omega (arith, c.requires.bin_few)) (omega (
+returns c = end-left c.args.z.l c.args.z.b c.args.z.f c.args.z.wb c.args.z.wf (omega (arith, c.requires.bin_few)) (omega (
   arith,
   c.requires.fld_few,
-)) (8 * c.args.l +
-    4 * c.args.b + 4 * c.args.f) (c.args.l + c.args.b + (c.args.l + c.args.f) +
-    c.args.l + c.args.b + c.args.f) 1 1 c.args.t c.terminals-u.result c.draw_alphas.result c.args.proof.now c.args.draws.now c.args.s.now c.terminals-u.new.proof c.draw_alphas.new.draws _ (take_all (length c.args.s.now - 4 * c.args.wb) (drop (4 * c.args.wb) c.args.s.now) (omega (
+)) (8 * c.args.z.l +
+    4 * c.args.z.b + 4 * c.args.z.f) (c.args.z.l + c.args.z.b + (c.args.z.l + c.args.z.f) +
+    c.args.z.l + c.args.z.b + c.args.z.f) 1 1 c.args.t c.terminals-u.result c.draw_alphas.result c.args.proof.now c.args.draws.now c.args.s.now c.terminals-u.new.proof c.draw_alphas.new.draws _ (take_all (length c.args.s.now - 4 * c.args.z.wb) (drop (4 * c.args.z.wb) c.args.s.now) (omega (
       arith,
-      length-drop (4 * c.args.wb) c.args.s.now,
+      length-drop (4 * c.args.z.wb) c.args.s.now,
     ))) c.terminals-u.ensures c.draw_alphas.ensures

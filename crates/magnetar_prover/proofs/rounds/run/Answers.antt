@@ -19,11 +19,11 @@ end-r-requires c = blocks-same (c.rows-v.auto.proof ∙ c.first-u.auto.proof) (c
 
 pub returns : goal.returns
 returns c = record {
-  run = all_left c.args.l c.args.b c.args.f c.args.wb c.args.wf (omega (arith, c.requires.bin_few)) (omega (
+  run = all_left c.args.z.l c.args.z.b c.args.z.f c.args.z.wb c.args.z.wf (omega (arith, c.requires.bin_few)) (omega (
     arith,
     c.requires.fld_few,
-  )) _ (8 * c.args.l + 4 * c.args.b + 4 * c.args.f) (c.args.l + c.args.b + (c.args.l
-      + c.args.f) + c.args.l + c.args.b + c.args.f) (value c.rows-v.result.kb) (value c.rows-v.result.kf) 1 1 (tables_in c.args.wb c.args.wf (take (4 * c.args.wb) c.args.s.now) (drop (4 * c.args.wb) c.args.s.now)) c.args.t
+  )) _ (8 * c.args.z.l + 4 * c.args.z.b + 4 * c.args.z.f) (c.args.z.l + c.args.z.b + (c.args.z.l
+      + c.args.z.f) + c.args.z.l + c.args.z.b + c.args.z.f) (value c.rows-v.result.kb) (value c.rows-v.result.kf) 1 1 (tables_in c.args.z.wb c.args.z.wf (take (4 * c.args.z.wb) c.args.s.now) (drop (4 * c.args.z.wb) c.args.s.now)) c.args.t
       c.rows-v.result.transcript c.rows-v.new.proof c.rows-v.new.draws
       c.rows-v.new.s _ c.first-u.ensures c.rows-v.ensures c.end-r.ensures;
   cleared = c.clear.ensures ∙ ap (λ (n : ℕ). replicate n 0) (c.rows-v.auto.s

@@ -17,5 +17,5 @@ returns c =
     let fit : (k : ℕ) → get_or p k 0 < 2 ^ 64 = λ k. omega (arith, c.type_inv.proof k) in
     λ next out was whole rest g.
     absorbed-one _ _ a.k (omega arith) (part-words p a.s.place a.k i.result j.result fit i.ensures j.ensures)
-    c.absorb_words-u.ensures refl refl
+    c.absorb.ensures refl refl
     (part-next p a.s.place a.k i.result j.result i.ensures j.ensures) g

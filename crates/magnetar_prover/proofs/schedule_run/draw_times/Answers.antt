@@ -7,7 +7,7 @@ pub loop-i-init : goal.loop-i-init
 loop-i-init c = times-start _ _ _ _
 
 pub loop-i-preserved : goal.loop-i-preserved
-loop-i-preserved c = times_more c.loop-i.invariant (omega arith) (search rules) c.draw_one-v.ensures
+loop-i-preserved c = times_more c.loop-i.invariant (omega arith) (search rules) c.draw_one-u.ensures
 
 pub returns : goal.returns
 returns c = times-end c.loop-i.invariant (omega arith)

@@ -7,5 +7,5 @@ pub returns : goal.returns
 unfolding ascii numbered
 returns c =
     let x = c.args in
-    inner-all x.c x.n c.run_singles-d.ensures c.draw_times-e.ensures c.inner_rounds-f.ensures
+    inner-all x.c x.n c.run_singles-d.ensures c.draw_times-e.ensures c.run_rounds-f.ensures
     c.absorb_one-g.ensures c.run_singles.ensures

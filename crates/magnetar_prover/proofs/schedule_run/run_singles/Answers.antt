@@ -1,13 +1,12 @@
-use native.Mathlib.Omega.{arith}
+use Rattle.std.proofs.Common.{arith}
 use Rattle.magnetar_prover.proofs.Turns.{singles-start, singles-more, singles-end}
-use borrow.Author.Rules.{rules}
 use Rattle.magnetar_prover.proofs.schedule_run.run_singles.Goals as goal
 
 pub loop-i-init : goal.loop-i-init
-loop-i-init c = (search rules, singles-start _ _ _ _)
+loop-i-init c = singles-start _ _ _ _
 
 pub loop-i-preserved : goal.loop-i-preserved
-loop-i-preserved c = (search rules, singles-more c.loop-i.invariant.1 (omega arith) c.absorb_next-v.ensures)
+loop-i-preserved c = singles-more c.loop-i.invariant (omega arith) c.absorb_one-u.ensures
 
 pub returns : goal.returns
-returns c = singles-end c.loop-i.invariant.1 (omega arith)
+returns c = singles-end c.loop-i.invariant (omega arith)

@@ -18,9 +18,9 @@ fold-requires c = let p = c.requires in record {
 pub fold-requires-2 : goal.fold-requires-2
 fold-requires-2 c = let x = c.args in
     let p = c.requires in
-    let one : length c.fold.new.s ≡ 4 * x.wb = c.fold.auto.s ∙ length-take-le _ _ (omega arith) in record {
+    let one : length c.fold.new.s ≡ 4 * x.bin.w = c.fold.auto.s ∙ length-take-le _ _ (omega arith) in record {
       s_len = (
-        ap length (lent-behind x.s.now c.fold.new.s (4 * x.wb) (4 * x.wf) p.s_len.0 one) ∙ rest-length x.s.now c.fold.new.s (4 * x.wb) (4 * x.wf) p.s_len.0 one,
+        ap length (lent-behind x.s.now c.fold.new.s (4 * x.bin.w) (4 * x.fld.w) p.s_len.0 one) ∙ rest-length x.s.now c.fold.new.s (4 * x.bin.w) (4 * x.fld.w) p.s_len.0 one,
         p.s_len.2,
         p.s_len.4,
       );
@@ -30,12 +30,12 @@ fold-requires-2 c = let x = c.args in
 pub returns : goal.returns
 returns c = let x = c.args in
     let p = c.requires in
-    let one : length c.fold.new.s ≡ 4 * x.wb = c.fold.auto.s ∙ length-take-le _ _ (omega arith) in
-    let two : length c.fold-2.new.s ≡ 4 * x.wf = c.fold-2.auto.s ∙ (ap length (lent-behind x.s.now c.fold.new.s (4 * x.wb) (4 * x.wf) p.s_len.0 one) ∙ rest-length x.s.now c.fold.new.s (4 * x.wb) (4 * x.wf) p.s_len.0 one) in
+    let one : length c.fold.new.s ≡ 4 * x.bin.w = c.fold.auto.s ∙ length-take-le _ _ (omega arith) in
+    let two : length c.fold-2.new.s ≡ 4 * x.fld.w = c.fold-2.auto.s ∙ (ap length (lent-behind x.s.now c.fold.new.s (4 * x.bin.w) (4 * x.fld.w) p.s_len.0 one) ∙ rest-length x.s.now c.fold.new.s (4 * x.bin.w) (4 * x.fld.w) p.s_len.0 one) in
     let f = c.fold.ensures in
     let g = c.fold-2.ensures in record {
-      bin = front-folded x.s.now c.fold.new.s c.fold-2.new.s (4 * x.wb) (4
-          * x.wf) p.s_len.0 one two (record { a = f.a; b = f.b; c = f.c; e = f.e });
-      fld = behind-folded x.s.now c.fold.new.s c.fold-2.new.s (4 * x.wb)
-          (4 * x.wf) p.s_len.0 one two (record { a = g.a; b = g.b; c = g.c; e = g.e });
+      bin = front-folded x.s.now c.fold.new.s c.fold-2.new.s (4 * x.bin.w) (4
+          * x.fld.w) p.s_len.0 one two f;
+      fld = behind-folded x.s.now c.fold.new.s c.fold-2.new.s (4 * x.bin.w)
+          (4 * x.fld.w) p.s_len.0 one two g;
     }

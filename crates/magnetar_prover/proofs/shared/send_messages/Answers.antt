@@ -30,12 +30,12 @@ message-requires c = let x = c.args in let p = c.requires in record {
 pub message-requires-2 : goal.message-requires-2
 message-requires-2 c = let x = c.args in
     let p = c.requires in
-    let one : length c.message.new.s ≡ 4 * x.wb = c.message.auto.s ∙ length-take-le _ _ (omega arith) in
+    let one : length c.message.new.s ≡ 4 * x.bin.w = c.message.auto.s ∙ length-take-le _ _ (omega arith) in
     let l : length c.message.new.out ≡ 8 = c.message.auto.out ∙ part-size x.proof.now (2 * x.p) 8 (omega arith) in
     let m = mid-length x.proof.now c.message.new.out (2 * x.p) 8 (omega arith) l in record {
       s_len = (
-        ap length (lent-behind x.s.now c.message.new.s (4 * x.wb) (4 * x.wf) p.s_len.0
-            one) ∙ rest-length x.s.now c.message.new.s (4 * x.wb) (4 * x.wf) p.s_len.0
+        ap length (lent-behind x.s.now c.message.new.s (4 * x.bin.w) (4 * x.fld.w) p.s_len.0
+            one) ∙ rest-length x.s.now c.message.new.s (4 * x.bin.w) (4 * x.fld.w) p.s_len.0
             one,
         p.s_len.2,
         p.s_len.4,
@@ -47,28 +47,21 @@ message-requires-2 c = let x = c.args in
 pub returns : goal.returns
 returns c = let x = c.args in
     let p = c.requires in
-    let one : length c.message.new.s ≡ 4 * x.wb = c.message.auto.s ∙ length-take-le _ _ (omega
+    let one : length c.message.new.s ≡ 4 * x.bin.w = c.message.auto.s ∙ length-take-le _ _ (omega
     arith) in
-    let lent = lent-behind x.s.now c.message.new.s (4 * x.wb) (4 * x.wf) p.s_len.0 one in
-    let two : length c.message-2.new.s ≡ 4 * x.wf = c.message-2.auto.s
-    ∙ (ap length lent ∙ rest-length x.s.now c.message.new.s (4 * x.wb) (4 * x.wf) p.s_len.0 one) in
+    let lent = lent-behind x.s.now c.message.new.s (4 * x.bin.w) (4 * x.fld.w) p.s_len.0 one in
+    let two : length c.message-2.new.s ≡ 4 * x.fld.w = c.message-2.auto.s
+    ∙ (ap length lent ∙ rest-length x.s.now c.message.new.s (4 * x.bin.w) (4 * x.fld.w) p.s_len.0 one) in
     let f = c.message.ensures in
     let g = c.message-2.ensures in
-    let v = message_in x.vb (value x.kb) (value x.ub) x.wb x.nb (take (4 * x.wb) x.s.now) in
-    let w = message_in x.vf (value x.kf) (value x.uf) x.wf x.nf (drop (4 * x.wb) x.s.now) in
-    let so : c.message-2.new.out ≡ words w = g.written ∙ ap (λ (l : List ℕ). words (message_in x.vf (value x.kf) (value x.uf) x.wf x.nf l)) lent in record {
-      sent = both-sent x.proof.now c.message.new.out c.message-2.new.out v w x.p p.s_len.6 (outer-four x.vb _ _ _ _ _ _) (outer-four x.vf _ _ _ _ _ _)
+    let v = message_in x.bin.v (value x.bin.k) (value x.bin.t) x.bin.w x.bin.n (take (4 * x.bin.w) x.s.now) in
+    let w = message_in x.fld.v (value x.fld.k) (value x.fld.t) x.fld.w x.fld.n (drop (4 * x.bin.w) x.s.now) in
+    let so : c.message-2.new.out ≡ words w = g.written ∙ ap (λ (l : List ℕ). words (message_in x.fld.v (value x.fld.k) (value x.fld.t) x.fld.w x.fld.n l)) lent in record {
+      sent = both-sent x.proof.now c.message.new.out c.message-2.new.out v w x.p p.s_len.6 (outer-four x.bin.v _ _ _ _ _ _) (outer-four x.fld.v _ _ _ _ _ _)
           f.written so;
-      there = both-there x.proof.now c.message.new.out c.message-2.new.out v w x.p p.s_len.6 (outer-four x.vb _ _ _ _ _ _) (outer-four x.vf _ _ _ _ _
+      there = both-there x.proof.now c.message.new.out c.message-2.new.out v w x.p p.s_len.6 (outer-four x.bin.v _ _ _ _ _ _) (outer-four x.fld.v _ _ _ _ _
           _) f.written so;
       bin = front-dropped x.s.now c.message.new.s
-          c.message-2.new.s (4 * x.wb) (4 * x.wf) p.s_len.0 one two (record {
-            dropped = f.dropped;
-            kept =
-                f.kept;
-          });
-      fld = behind-dropped x.s.now c.message.new.s c.message-2.new.s (4 * x.wb) (4 * x.wf) p.s_len.0 one two (record {
-        dropped = g.dropped;
-        kept = g.kept;
-      });
+          c.message-2.new.s (4 * x.bin.w) (4 * x.fld.w) p.s_len.0 one two f.dropped;
+      fld = behind-dropped x.s.now c.message.new.s c.message-2.new.s (4 * x.bin.w) (4 * x.fld.w) p.s_len.0 one two g.dropped;
     }

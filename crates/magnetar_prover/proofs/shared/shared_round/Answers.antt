@@ -44,8 +44,8 @@ end_both-requires c = let p = c.requires in record {
 pub returns : goal.returns
 returns c = let x = c.args in
     let p = c.requires in
-    let ub = value c.get-ub.result in
-    let uf = value c.get-uf.result in
+    let ub = value c.get.result in
+    let uf = value c.get-2.result in
     let p₁ = c.send_messages.new.proof in
     let s₁ = c.send_messages.new.s in
     let u = c.shared_round-u.result in
@@ -56,6 +56,6 @@ returns c = let x = c.args in
     (transcript.absorbed x.t (numbered "vs-out-shared-" x.i) (word_bytes w)) (numbered "vs-out-shared-" x.i)) (part-is p₁ (2 * x.at.p)
     16 ∙ g.there) in
     rw h.transcript
-    (shared-done x.i x.h x.b x.f x.at.o x.at.q x.at.p x.at.d (value x.kb) (value c.end_both.result.kb) (value x.kf) (value c.end_both.result.kf) ub uf x.wb x.nb x.wf x.nf x.t u x.proof.now p₁ x.draws.now c.end_both.new.draws
+    (shared-done x.i x.h x.b x.f x.at.o x.at.q x.at.p x.at.d (value x.bin.k) (value c.end_both.result.kb) (value x.fld.k) (value c.end_both.result.kf) ub uf x.bin.w x.bin.n x.fld.w x.fld.n x.t u x.proof.now p₁ x.draws.now c.end_both.new.draws
     x.s.now s₁ c.end_both.new.s
-    p.shared.0 p.shared.1 p.s_len.3 p.s_len.4 l c.get-ub.ensures c.get-uf.ensures transcript-is g.sent h.drawn h.kb h.kf g.bin g.fld h.bin h.fld)
+    p.shared.0 p.shared.1 p.s_len.3 p.s_len.4 l c.get.ensures c.get-2.ensures transcript-is g.sent h.drawn h.kb h.kf g.bin g.fld h.bin h.fld)

@@ -2,7 +2,7 @@ use Rattle.magnetar_field.specs.Gf128.{value}
 use Rattle.magnetar_prover.proofs.Sent.{drawn-more}
 use mathlib.Core.Path.{◌∙◌, ap}
 use native.Mathlib.Omega.{arith}
-use Rattle.magnetar_prover.proofs.outer.end_round.Goals as goal
+use Rattle.magnetar_prover.proofs.outer.Turn.end.Goals as goal
 
 pub returns : goal.returns
 returns c = let x = c.args in
@@ -10,8 +10,5 @@ returns c = let x = c.args in
     let f = c.fold.ensures in record {
       k = c.eq_next.ensures ∙ rw c.element-r.ensures;
       drawn = drawn-more x.draws.now c.put.new.s x.d (value c.element-r.result) c.put.ensures (omega arith) ∙ rw c.element-r.ensures;
-      a = f.a ∙ rw c.element-r.ensures;
-      b = f.b ∙ rw c.element-r.ensures;
-      c = f.c ∙ rw c.element-r.ensures;
-      e = f.e;
+      folded = rw (← c.element-r.ensures) f;
     }
