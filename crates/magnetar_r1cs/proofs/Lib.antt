@@ -1,4 +1,3 @@
-pub mod Flags
 pub mod Lone
 pub mod Points
 pub mod Parts

@@ -1,40 +1,75 @@
 -- A matrix that its tests let through.
 -- Assumes nothing.
-use mathlib.Core.Path.{◌≡◌, refl, sym, ◌∙◌}
-use mathlib.Core.Bool.{Bool, true, ◌&&◌}
+use Rattle.std.specs.Prelude.{Result, Ok, Err}
+use Rattle.std.proofs.Common.{if◌then◌else◌}
+use mathlib.Core.Path.{◌≡◌, refl, ◌∙◌}
+use mathlib.Core.Bool.{Bool, true, false, not, ◌&&◌}
 use mathlib.Core.List.{List, [], ◌∷◌, ◌++◌}
-use Prim.Native.Nat.{ℕ, ◌*◌, ◌≤◌}
+use Prim.Native.Nat.{ℕ, ◌+◌, ◌-◌, ◌*◌, ◌≤◌, ◌<◌}
+use native.Mathlib.Nat.{suc_inj}
 use native.Mathlib.Omega.{arith}
 use lib.Dec.{ltb}
-use lib.ListN.{length}
+use lib.ListN.{length, drop}
 use borrow.Author.Tests.{not-false, eqb-true, ltb-true, lt-ltb}
+use Rattle.magnetar_field.specs.declared.refusal.Refusal.{Refusal}
+use Rattle.magnetar_field.specs.declared.refusal.Refusal.TheVariants.{EntryPlace}
+use Rattle.magnetar_field.specs.Number.{number_of}
 use Rattle.magnetar_layout.specs.Every.{every}
 use Rattle.magnetar_matrix.specs.Matrix.{Entry, sum_over}
 use Rattle.magnetar_matrix.specs.Lent.{Lent, entries_of}
+use Rattle.magnetar_matrix.specs.Numbers.{Numbers, entries_by}
 use Rattle.magnetar_matrix.specs.Packed.{login_words, public_words}
 use Rattle.magnetar_matrix.specs.Table.{Equal}
+use Rattle.magnetar_r1cs.specs.Inside.{inside}
 use Rattle.magnetar_r1cs.specs.Entries.{logins_tests, matrix_tests}
-use Rattle.magnetar_layout.specs.Tests.{first_refusal, all_below, counted, placed, lone_tests, batch_tests, Sized}
-use Rattle.magnetar_layout.proofs.EveryLaws.{both}
+use Rattle.magnetar_layout.specs.Tests.{or_refuse, first_refusal, all_below, counted, placed, lone_tests, batch_tests, size_tests, Sized}
+use Rattle.magnetar_layout.proofs.EveryLaws.{both, every_drop}
 use Rattle.magnetar_layout.proofs.FirstRefusal.{Clear, first-refusal-clear}
 use Rattle.magnetar_layout.proofs.SizeLaws.{not-bad}
+use Rattle.magnetar_layout.proofs.Passing.{cleared}
+use Rattle.magnetar_matrix.proofs.LoginParts.{product-most, words-most}
+use Rattle.magnetar_matrix.proofs.Blocks.{product-fits}
 
 -- the entries are counted, and lie inside
 pub record Placed (a : Lent) : Type 0 where
   pub equal : Equal a.row a.col a.lo a.hi
-  pub rows_in : all_below a.rows a.row ≡ true
-  pub cols_in : all_below a.cols a.col ≡ true
+  pub inside : every (inside a.rows a.cols) (entries_of a.row a.col a.lo a.hi) ≡ true
+
+and-true : {a b : Bool} → a ≡ true → b ≡ true → (a && b) ≡ true
+and-true p q = rw (p, q)
+
+shuffle : (a b c d : Bool) → ((a && b) && (c && d)) ≡ ((a && c) && (b && d))
+shuffle true true c d = refl
+shuffle true false true d = refl
+shuffle true false false d = refl
+shuffle false b c d = refl
+
+inside-suc : (n m : ℕ) (r c l h : List ℕ) → length c ≡ length r → length l ≡ length r → length h ≡ length r
+    → every (inside n m) (entries_of r c l h) ≡ (all_below n r && all_below m c)
+unfolding entries_of every
+inside-suc n m [] [] l h ec el eh = refl
+inside-suc n m [] (y ∷ c) l h ec el eh = absurd (omega arith)
+inside-suc n m (x ∷ r) [] l h ec el eh = absurd (omega arith)
+inside-suc n m (x ∷ r) (y ∷ c) [] h ec el eh = absurd (omega arith)
+inside-suc n m (x ∷ r) (y ∷ c) (z ∷ l) [] ec el eh = absurd (omega arith)
+inside-suc n m (x ∷ r) (y ∷ c) (z ∷ l) (u ∷ h) ec el eh =
+    rw (inside-suc n m r c l h (suc_inj ec) (suc_inj el) (suc_inj eh)) (shuffle (ltb x n) (ltb y m) (all_below n r) (all_below m c))
+
+-- the entries lie inside where the rows and the columns do
+pub inside-are : (n m : ℕ) (s : Numbers) → Equal s.row s.col s.lo s.hi → every (inside n m) (entries_by s) ≡ (all_below n s.row && all_below m s.col)
+inside-are n m s q = inside-suc n m s.row s.col s.lo s.hi q.col q.lo q.hi
 
 pub placed_of : (a : Lent) → Clear (counted a ++ placed a) → Placed a
-placed_of a k = record {
-  equal = record {
-    col = eqb-true _ _ (not-false _ k.1.0);
-    lo = eqb-true _ _ (not-false _ k.1.1.0);
-    hi = eqb-true _ _ (not-false _ k.1.1.1.0);
-  };
-  rows_in = not-false _ k.1.1.1.1.0;
-  cols_in = not-false _ k.1.1.1.1.1.0;
-}
+placed_of a k =
+    let q : Equal a.row a.col a.lo a.hi = record {
+      col = eqb-true _ _ (not-false _ k.1.0);
+      lo = eqb-true _ _ (not-false _ k.1.1.0);
+      hi = eqb-true _ _ (not-false _ k.1.1.1.0);
+    } in
+    record {
+      equal = q;
+      inside = inside-suc a.rows a.cols a.row a.col a.lo a.hi q.col q.lo q.hi ∙ and-true (not-false _ k.1.1.1.1.0) (not-false _ k.1.1.1.1.1.0);
+    }
 
 pub record Lone (a : Lent) : Type 0 where
   pub cols_size : Sized 2 65536 a.cols
@@ -47,22 +82,20 @@ lone a e =
     record { cols_size = not-bad k.0; rows_size = not-bad k.1.0; entries = placed_of a k.1.1 }
 
 -- ---- entries that lie inside
-abbrev pub inside : ℕ → ℕ → Entry → Bool
-inside n m e = ltb e.row n && ltb e.col m
+pub col-inside : (n m : ℕ) (es : List Entry) (e : Entry) (i : ℕ) → every (inside n m) es ≡ true → drop i es ≡ e ∷ drop (i + 1) es → e.col < m
+unfolding every
+col-inside n m es e i t d =
+    let k : every (inside n m) (e ∷ drop (i + 1) es) ≡ true = rw d at (every_drop (inside n m) i es t) in
+    ltb-true e.col m (both (ltb e.row n) (ltb e.col m) (both (inside n m e) (every (inside n m) (drop (i + 1) es)) k).0).1
 
-and-true : {a b : Bool} → a ≡ true → b ≡ true → (a && b) ≡ true
-and-true p q = rw (p, q)
-
-pub all-inside : (n m : ℕ) (r c l h : List ℕ) → all_below n r ≡ true → all_below m c ≡ true → every (inside n m) (entries_of r c l h) ≡ true
-unfolding entries_of every
-all-inside n m [] c l h p q = refl
-all-inside n m (x ∷ r) [] l h p q = refl
-all-inside n m (x ∷ r) (y ∷ c) [] h p q = refl
-all-inside n m (x ∷ r) (y ∷ c) (z ∷ l) [] p q = refl
-all-inside n m (x ∷ r) (y ∷ c) (z ∷ l) (u ∷ h) p q =
-    let a = both (ltb x n) (every (λ v. ltb v n) r) p in
-    let b = both (ltb y m) (every (λ v. ltb v m) c) q in
-    and-true (and-true a.0 b.0) (all-inside n m r c l h a.1 b.1)
+pub inside_wider : (n m k l : ℕ) (es : List Entry) → n ≤ k → m ≤ l → every (inside n m) es ≡ true → every (inside k l) es ≡ true
+unfolding every
+inside_wider n m k l [] h i t = refl
+inside_wider n m k l (e ∷ es) h i t =
+    let p = both (inside n m e) (every (inside n m) es) t in
+    let q = both (ltb e.row n) (ltb e.col m) p.0 in
+    and-true (and-true (lt-ltb e.row k (omega (arith, ltb-true e.row n q.0))) (lt-ltb e.col l (omega (arith, ltb-true e.col m q.1))))
+    (inside_wider n m k l es h i p.1)
 
 -- sums over entries that pass a test
 pub sum-ext : (p : Entry → Bool) (f g : Entry → ℕ) (es : List Entry) → every p es ≡ true
@@ -72,17 +105,6 @@ sum-ext p f g [] t h = refl
 sum-ext p f g (e ∷ es) t h =
     let k = both (p e) (every p es) t in
     rw (h e k.0, sum-ext p f g es k.1 h)
-
--- with rows and columns exchanged
-pub flipped : {r c l h : List ℕ} → Equal r c l h → Equal c r l h
-flipped e = record { col = sym e.col; lo = e.lo ∙ sym e.col; hi = e.hi ∙ sym e.col }
-
-pub below_wider : (m n : ℕ) (s : List ℕ) → m ≤ n → all_below m s ≡ true → all_below n s ≡ true
-unfolding every
-below_wider m n [] h e = refl
-below_wider m n (x ∷ s) h e =
-    let k = both (ltb x m) (all_below m s) e in
-    and-true (lt-ltb x n (omega (arith, ltb-true x m k.0))) (below_wider m n s h k.1)
 
 -- ---- rows for a batch
 pub record Logins (p k q w n : ℕ) : Type 0 where
@@ -144,3 +166,42 @@ masked a ws q w e =
       rows_size = not-bad k.1.1.1.0;
       entries = placed_of a k.1.1.1.1.1.1;
     }
+
+-- ---- 7, by the entries
+pub places-is : (a : Lent) (r : Result Unit Refusal) → first_refusal 0 (counted a) ≡ 0
+    → r ≡ (if every (inside a.rows a.cols) (entries_of a.row a.col a.lo a.hi) then Ok tt else Err EntryPlace) → number_of r ≡ first_refusal 0 (placed a)
+unfolding or_refuse
+places-is a r z e = go (all_below a.rows a.row) (all_below a.cols a.col) (rw (inside-suc a.rows a.cols a.row a.col a.lo a.hi q.col q.lo q.hi) at e)
+  where
+    k : Clear (counted a)
+    k = (first-refusal-clear 0 (counted a) refl z).1
+
+    q : Equal a.row a.col a.lo a.hi
+    q = record { col = eqb-true _ _ (not-false _ k.1.0); lo = eqb-true _ _ (not-false _ k.1.1.0); hi = eqb-true _ _ (not-false _ k.1.1.1.0) }
+
+    go : (b d : Bool) → r ≡ (if b && d then Ok tt else Err EntryPlace) → number_of r ≡ first_refusal 0 ((7, not b) ∷ (7, not d) ∷ [])
+    go true true h = rw h
+    go true false h = rw h
+    go false d h = rw h
+
+-- ---- products of sizes
+pub words-fit : (q w : ℕ) → q ≤ 4096 → w ≤ 32768 → q * login_words w ≤ 2097152
+words-fit q w h l = product-most q (login_words w) h (words-most w l)
+
+pub public-fit : (q w : ℕ) → q ≤ 4096 → w ≤ 32768 → q * (2 * w - 2) ≤ 536870912
+public-fit q w h l = product-fits q (2 * w - 2) h (omega arith)
+
+pub rows_fit : (q n : ℕ) → q ≤ 4096 → n ≤ 65536 → q * n ≤ 536870912
+rows_fit q n h l = product-fits q n h (omega arith)
+
+-- ---- sizes that pass
+pub record Small (q w : ℕ) : Type 0 where
+  pub least : 1 ≤ w
+  pub half : w ≤ 32768
+  pub logins : q ≤ 4096
+
+pub small_of : (q w : ℕ) → 0 ≡ first_refusal 0 (size_tests (2 * w) q) → Small q w
+small_of q w e =
+    let k = cleared (size_tests (2 * w) q) refl e in
+    let h = not-bad k.0 in
+    record { least = omega (arith, h.low); half = omega (arith, h.high); logins = (not-bad k.1.0).high }

@@ -21,7 +21,7 @@ use Rattle.magnetar_multilinear.proofs.EqTables.{eq_table-length, eq_table-get, 
 use Rattle.magnetar_matrix.specs.Matrix.{Entry}
 use Rattle.magnetar_matrix.specs.Table.{Point, cross}
 use Rattle.magnetar_layout.proofs.EveryLaws.{both}
-use Rattle.magnetar_r1cs.proofs.Lone.{inside}
+use Rattle.magnetar_r1cs.specs.Inside.{inside}
 use Rattle.magnetar_layout.specs.Tests.{Sized}
 
 -- a power of two up to 65,536 has at most 16 as its logarithm

@@ -1,13 +1,11 @@
 -- The product with z = (w, 1, x): the shares from the bits and from the public columns.
 -- Assumes nothing.
-use mathlib.Core.Path.{◌≡◌, refl, sym, ap, ◌∙◌}
-use mathlib.Core.Bool.{Bool, true, false, cond, ◌&&◌}
+use mathlib.Core.Path.{◌≡◌, refl, sym, ◌∙◌}
+use mathlib.Core.Bool.{Bool, true, false, cond}
 use mathlib.Core.List.{List, [], ◌∷◌, ◌++◌}
-use Prim.Native.Nat.{ℕ, zero, suc, ◌+◌, ◌-◌, ◌*◌, ◌^◌, ◌≤◌, ◌<◌}
-use native.Mathlib.Nat.{suc_inj}
-use native.Mathlib.Numerals.{add-one}
+use Prim.Native.Nat.{ℕ, zero, suc, ◌+◌, ◌-◌, ◌≤◌, ◌<◌}
 use native.Mathlib.Omega.{arith}
-use lib.Dec.{eqb, ltb, leb, leb-suc-suc}
+use lib.Dec.{eqb, ltb}
 use borrow.Author.Tests.{ltb-true, ltb-false, lt-ltb, le-ltb}
 use lib.ListN.{length, get_or, get_or-append}
 use lib.Seq.{get_or-append-add}
@@ -17,13 +15,11 @@ use Rattle.magnetar_field.specs.Words.{elements}
 use Rattle.magnetar_field.proofs.Xor.{⊕-zero, zero-⊕, ⊕-four}
 use Rattle.magnetar_field.proofs.Tabulation.{tabulate-length, tabulate-get, tabulate-ext}
 use Rattle.magnetar_matrix.specs.Sum.{blocks}
-use Rattle.magnetar_layout.specs.Every.{every}
-use Rattle.magnetar_matrix.specs.Matrix.{Entry, Matrix, sum_over, row_total, share, times_at, times, is_bit}
+use Rattle.magnetar_matrix.specs.Matrix.{Entry, Matrix, sum_over, row_total, share, times_at, times}
 use Rattle.magnetar_matrix.specs.Batch.{PublicColumns, public_half, assignment, batch_products}
 use Rattle.magnetar_matrix.specs.Packed.{packed_bit, login_part, public_part, unpacked, public_of, packed_table}
 use Rattle.magnetar_matrix.specs.Lent.{Lent, entries_of, matrix_of}
-use Rattle.magnetar_matrix.specs.Table.{public_share, bit_share, login_total, login_block, Equal}
-use Rattle.magnetar_layout.specs.Tests.{all_below}
+use Rattle.magnetar_matrix.specs.Table.{public_share, bit_share, login_total, login_block}
 use Rattle.magnetar_matrix.proofs.PublicParts.{public-of}
 
 -- ---- one entry
@@ -114,26 +110,3 @@ pub same-table : (n k l : ℕ) (es : List Entry) (ws x : List ℕ) (q w : ℕ)
     → packed_table (record { rows = n; cols = k; entries = es }) ws x q w ≡ packed_table (record { rows = n; cols = l; entries = es }) ws x q w
 same-table n k l es ws x q w =
     sym (table_is (record { rows = n; cols = k; entries = es }) ws x q w) ∙ table_is (record { rows = n; cols = l; entries = es }) ws x q w
-
--- ---- the flag
-shuffle : (a b c d : Bool) → ((a && b) && (c && d)) ≡ ((a && c) && (b && d))
-shuffle true true c d = refl
-shuffle true false true d = refl
-shuffle true false false d = refl
-shuffle false b c d = refl
-
-flag-suc : (w : ℕ) (r c l h : List ℕ) → length c ≡ length r → length l ≡ length r → length h ≡ length r
-    → (every is_bit (entries_of r c l h) && all_below (suc w) c) ≡ every (λ e. is_bit e && leb e.col w) (entries_of r c l h)
-unfolding every entries_of
-flag-suc w [] [] l h ec el eh = refl
-flag-suc w [] (y ∷ c) l h ec el eh = absurd (omega arith)
-flag-suc w (x ∷ r) [] l h ec el eh = absurd (omega arith)
-flag-suc w (x ∷ r) (y ∷ c) [] h ec el eh = absurd (omega arith)
-flag-suc w (x ∷ r) (y ∷ c) (u ∷ l) [] ec el eh = absurd (omega arith)
-flag-suc w (x ∷ r) (y ∷ c) (u ∷ l) (v ∷ h) ec el eh =
-    rw (leb-suc-suc y w) (shuffle (ltb (v * 2 ^ 64 + u) 2) (every is_bit (entries_of r c l h)) (leb y w) (all_below (suc w) c)
-    ∙ ap (λ (b : Bool). (ltb (v * 2 ^ 64 + u) 2 && leb y w) && b) (flag-suc w r c l h (suc_inj ec) (suc_inj el) (suc_inj eh)))
-
-pub flag_is : (w : ℕ) (r c l h : List ℕ) → Equal r c l h
-    → (every is_bit (entries_of r c l h) && all_below (w + 1) c) ≡ every (λ e. is_bit e && leb e.col w) (entries_of r c l h)
-flag_is w r c l h q = rw add-one (flag-suc w r c l h q.col q.lo q.hi)

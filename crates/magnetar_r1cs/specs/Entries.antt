@@ -1,17 +1,18 @@
 -- The outcomes of the entries: which refusal applies, in rising order, and what each lent slice holds at exit.
 -- Source: document 01, "Matrices and layout", "The run" (scratch words) and "Who can be turned back"; the Rust's `SparseMatrix`.
 -- Assumes nothing.
-use Rattle.std.specs.Prelude.{Bool, true, false, not, List, [], ◌∷◌, ◌++◌, ℕ, ◌+◌, ◌-◌, ◌*◌, ◌^◌, ltb, length, take, drop, replicate}
+use Rattle.std.specs.Prelude.{Bool, not, Result, Ok, Err, List, [], ◌∷◌, ◌++◌, ℕ, ◌+◌, ◌-◌, ◌*◌, ◌^◌, ltb, length, take, drop, replicate}
+use Rattle.magnetar_field.specs.declared.refusal.Refusal.{Refusal}
+use Rattle.magnetar_field.specs.Number.{number}
 use Rattle.magnetar_field.specs.Refusal.{unless_refused}
 use Rattle.magnetar_field.specs.Sizes.{log₂}
 use Rattle.magnetar_field.specs.Words.{elements, words}
 use Rattle.magnetar_multilinear.specs.Entries.{Answer, answered}
-use Rattle.magnetar_r1cs.specs.declared.r1cs.Flag.{Flag}
-use Rattle.magnetar_r1cs.specs.declared.r1cs.Flag.TheVariants.{Yes, No, Refused}
 use Rattle.magnetar_matrix.specs.Matrix.{Matrix, times, mle_table, mle_at, bit_valued}
 use Rattle.magnetar_r1cs.specs.Masks.{masks}
 use Rattle.magnetar_matrix.specs.Packed.{packed_table, unpacked}
-use Rattle.magnetar_matrix.specs.Lent.{Lent, entries_of, matrix_of}
+use Rattle.magnetar_matrix.specs.Lent.{Lent, matrix_of}
+use Rattle.magnetar_matrix.specs.Numbers.{Numbers, entries_by}
 use Rattle.magnetar_layout.specs.Tests.{Tests, first_refusal, size_tests, packed_tests, packed_tests_of, public_tests_of, rows_tests, matrix_column_tests, counted, placed, batch_tests, length_test, room_test, lone_tests}
 
 -- ---- `apply`: the matrix a, the vector z, the output out
@@ -62,11 +63,10 @@ pub data Flagged : Type 0 where
   flag : Bool → Flagged
   refusal : ℕ → Flagged
 
--- the answer that a value of the code's enum is
-abbrev pub flagged : Flag → Flagged
-flagged Yes = flag true
-flagged No = flag false
-flagged (Refused n) = refusal n
+-- the answer that a result of the code is
+abbrev pub flagged : Result Bool Refusal → Flagged
+flagged (Ok b) = flag b
+flagged (Err r) = refusal (number r)
 
 -- the flag b, unless n is a refusal
 abbrev pub flagged_of : ℕ → Bool → Flagged
@@ -98,9 +98,9 @@ logins_tests p k q w n = size_tests (2 * w) q ++ (packed_tests_of w q p ++ (publ
 unfoldable pub range_refusal : (n : ℕ) → (ws x : List ℕ) → (q w : ℕ) → (out : List ℕ) → ℕ
 range_refusal n ws x q w out = first_refusal 0 (logins_tests (length ws) (length x) q w n ++ room_test (q * (2 * n)) out)
 
--- a matrix of n rows and m columns: the entries from a to b of those that the four slices hold
-abbrev pub range_matrix : (n m a b : ℕ) → (row col lo hi : List ℕ) → Matrix
-range_matrix n m a b row col lo hi = record { rows = n; cols = m; entries = take (b - a) (drop a (entries_of row col lo hi)) }
+-- a matrix of n rows and m columns: the entries from a to b of those with these numbers
+abbrev pub range_matrix : (n m a b : ℕ) → Numbers → Matrix
+range_matrix n m a b s = record { rows = n; cols = m; entries = take (b - a) (drop a (entries_by s)) }
 
 -- the output: the words of the products, one login behind the other, then what stood behind them
 abbrev pub range_out : Matrix → (ws x : List ℕ) → (q w : ℕ) → (out : List ℕ) → List ℕ

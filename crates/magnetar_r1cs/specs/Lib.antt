@@ -1,3 +1,4 @@
 pub mod Masks
 pub mod Flips
 pub mod Entries
+pub mod Inside

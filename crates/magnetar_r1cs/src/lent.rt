@@ -1,58 +1,43 @@
-// The refusals 1, 4, 6 and 7 of a matrix that is lent as four number slices, each as a number: an earlier number stays.
-ghost use Rattle.std.specs.Prelude.{◌≡◌};
-ghost use Rattle.magnetar_layout.specs.Tests.{first_refusal, all_below, count_tests, place_tests, lone_tests};
-ghost use Rattle.magnetar_matrix.specs.Lent.{lent};
+// The refusals 1, 4, 5, 6 and 7 of a matrix that is lent.
+ghost use Rattle.std.specs.Prelude.{◌≡◌, ◌++◌, ◌*◌, ◌≤◌, length};
+ghost use Rattle.magnetar_field.specs.Number.{number_of};
+ghost use Rattle.magnetar_layout.specs.Tests.{first_refusal, counted, placed, lone_tests, matrix_column_tests};
+ghost use Rattle.magnetar_matrix.specs.Numbers.{Numbers, lent_by};
+ghost use Rattle.magnetar_matrix.specs.Table.{Equal};
 
+use crate::walk;
+use magnetar_field::refusal::{Refusal, require};
+use magnetar_layout::limits::{MOST_COLUMNS, MOST_ENTRIES, MOST_ROWS};
 use magnetar_layout::tests;
-
-// Each number of s is below n.
-pub(crate) fn all_below(s: &[usize], n: usize) -> bool
-    ensures { result ≡ all_below n s.now }
-{
-    let mut i = 0;
-    while i < s.len() {
-        if s[i] >= n {
-            return false;
-        }
-        i += 1;
-    }
-    true
-}
+use magnetar_matrix::entries::Entries;
 
 // 6: how many entries there are.
-pub(crate) fn counts(z: u32, row: usize, col: usize, lo: usize, hi: usize) -> u32
-    ensures { result ≡ first_refusal z (count_tests row col lo hi) }
+#[tactic(auto, using(magnetar_layout::proofs::Passing::passing), unfolding(magnetar_layout::specs::Tests::or_refuse))]
+fn counts<E: Entries>(es: &E) -> Result<(), Refusal>
+    ensures { number_of result ≡ first_refusal 0 (counted (lent_by 0 0 (E.numbers es.now))) }
 {
-    let z = tests::refuse(z, 6, row > 1048576);
-    let z = tests::refuse(z, 6, col != row);
-    let z = tests::refuse(z, 6, lo != row);
-    tests::refuse(z, 6, hi != row)
+    let n = es.counts();
+    require(n[0] <= MOST_ENTRIES, Refusal::EntryCount)?;
+    require(
+        n[1] == n[0] && n[2] == n[0] && n[3] == n[0],
+        Refusal::EntryCount,
+    )
 }
 
-// 7: the entries lie inside their matrix.
-pub(crate) fn places(z: u32, rows: usize, cols: usize, row: &[usize], col: &[usize]) -> u32
-    ensures { result ≡ first_refusal z (place_tests rows cols row.now col.now) }
+// 6 and 7: how many entries there are, and that they lie inside the matrix.
+pub(crate) fn entries<E: Entries>(rows: usize, cols: usize, es: &E) -> Result<(), Refusal>
+    ensures { let a = lent_by rows cols (E.numbers es.now) in number_of result ≡ first_refusal 0 (counted a ++ placed a) }
 {
-    if z != 0 {
-        return z;
-    }
-    let z = tests::refuse(z, 7, !all_below(row, rows));
-    tests::refuse(z, 7, !all_below(col, cols))
+    counts(es)?;
+    require(walk::all_inside(es, rows, cols), Refusal::EntryPlace)
 }
 
 // 1, 4, 6 and 7 of a matrix alone.
-pub(crate) fn lone(
-    rows: usize,
-    cols: usize,
-    row: &[usize],
-    col: &[usize],
-    lo: &[u64],
-    hi: &[u64],
-) -> u32
-    ensures { result ≡ first_refusal 0 (lone_tests (lent rows cols row.now col.now lo.now hi.now)) }
+#[tactic(auto, using(magnetar_layout::proofs::Passing::passing), unfolding(magnetar_layout::specs::Tests::or_refuse))]
+pub(crate) fn lone<E: Entries>(rows: usize, cols: usize, es: &E) -> Result<(), Refusal>
+    ensures { number_of result ≡ first_refusal 0 (lone_tests (lent_by rows cols (E.numbers es.now))) }
 {
-    let z = tests::refuse(0, 1, !tests::is_size(2, 65536, cols));
-    let z = tests::refuse(z, 4, !tests::is_size(1, 65536, rows));
-    let z = counts(z, row.len(), col.len(), lo.len(), hi.len());
-    places(z, rows, cols, row, col)
+    require(tests::is_size(2, MOST_COLUMNS, cols), Refusal::Size)?;
+    require(tests::is_size(1, MOST_ROWS, rows), Refusal::Rows)?;
+    entries(rows, cols, es)
 }

@@ -4,6 +4,6 @@ use borrow.Author.Rules.{rules}
 use Rattle.magnetar_r1cs.proofs.r1cs.bit_part.Goals as goal
 
 pub returns : goal.returns
-returns c =
+returns g c =
     let s = c in
-    kept-words _ s.args.out.now _ s.requires.out_len (search rules) c.add_bits.ensures (λ i. omega (arith, c.type_inv.out i))
+    kept-words _ s.args.out.now _ s.requires (search rules) c.add_bits.ensures (λ i. omega (arith, c.type_inv.out i))

@@ -4,6 +4,6 @@ use borrow.Author.Rules.{rules}
 use Rattle.magnetar_r1cs.proofs.r1cs.public_part.Goals as goal
 
 pub returns : goal.returns
-returns c =
+returns g c =
     let s = c in
-    cleared-raised _ s.args.out.now _ _ s.requires.out_len (search rules) c.clear.ensures c.add_public.ensures (λ i. omega (arith, c.type_inv.out i))
+    cleared-raised _ s.args.out.now _ _ s.requires (search rules) c.clear.ensures c.add_public.ensures (λ i. omega (arith, c.type_inv.out i))

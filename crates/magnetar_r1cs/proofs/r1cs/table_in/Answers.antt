@@ -8,7 +8,7 @@ use borrow.Author.Rules.{rules}
 use Rattle.magnetar_r1cs.proofs.r1cs.table_in.Goals as goal
 
 pub returns : goal.returns
-returns c =
+returns g c =
     let b = c in
     let built = b.build-done.ensures.table ∙ eq-built _ _ b.requires.point in
     let same : length b.build-done.new.out ≡ length c.args.s.now = search rules in record {

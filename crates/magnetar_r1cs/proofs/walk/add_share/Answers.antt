@@ -4,4 +4,4 @@ use Rattle.magnetar_r1cs.proofs.walk.add_share.Goals as goal
 
 pub returns : goal.returns
 unfolding share
-returns c = rw (c.add_at.ensures, added-in, c.scale.ensures, c.get.ensures)
+returns c = rw (c.add_at.ensures, added-in, c.scale.ensures, c.value.ensures, c.get.ensures)

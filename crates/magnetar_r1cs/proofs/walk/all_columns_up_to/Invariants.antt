@@ -1,0 +1,7 @@
+use lib.Dec.{leb}
+use Rattle.magnetar_matrix.specs.Numbers.{entries_by}
+use Rattle.magnetar_layout.proofs.EveryLaws.{Left}
+use Rattle.magnetar_r1cs.proofs.walk.all_columns_up_to.Given as goal
+
+abbrev pub invariant-loop-i : goal.invariant-loop-i
+invariant-loop-i g l = Left (λ e. leb e.col l.w) (entries_by (g.E.Entries.numbers l.es)) l.i
