@@ -2,5 +2,7 @@
 #![tactic(auto)]
 
 pub mod line;
+pub mod matrix;
 pub mod replay;
 pub mod show;
+pub mod step;

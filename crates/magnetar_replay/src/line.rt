@@ -1,6 +1,7 @@
 // A line: the name of a query, and words behind it, which are numbers or byte strings. Every function here takes any input: what does not
 // fit is left out, and a number that is not there reads as 0.
 use crate::show::MARK;
+use magnetar_hash::transcript::Transcript;
 use std::alloc::{AllocError, Global};
 
 // The names of more than eight letters.
@@ -109,6 +110,15 @@ pub fn hash(line: &[u8]) -> [u8; 32] {
     bytes
 }
 
+// The first 32 bytes, 0 where there are fewer.
+pub fn digest(bytes: &[u8]) -> [u8; 32] {
+    let mut digest = [0u8; 32];
+    for (d, b) in digest.iter_mut().zip(bytes) {
+        *d = *b;
+    }
+    digest
+}
+
 impl Strings {
     // The bytes of the strings from i on, before string k.
     pub fn between(&self, i: usize, k: usize) -> &[u8] {
@@ -120,6 +130,15 @@ impl Strings {
     // The bytes of string i.
     pub fn at(&self, i: usize) -> &[u8] {
         self.between(i, i.saturating_add(1))
+    }
+
+    // The transcript of a query: its state is the first string, and its counter the number behind it.
+    pub fn transcript(&self, nums: &[u64]) -> Transcript {
+        let state = digest(self.at(0));
+        Transcript {
+            state,
+            squeeze_ctr: at(nums, 1),
+        }
     }
 
     // How long the strings are from i on, before string k.

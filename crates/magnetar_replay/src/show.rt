@@ -107,15 +107,24 @@ pub fn code<T: Copy>(answer: Result<T, Refusal>) -> u32 {
     }
 }
 
+// A line with the number of a refusal.
+pub fn refused(out: &mut Out, refusal: Refusal) -> io::Result<()> {
+    let number = refusal.number();
+    writeln!(out, "! {number}")
+}
+
 // A line with what a call answered, or with the number of its refusal.
 pub fn answer<T: fmt::Display + Copy>(out: &mut Out, answer: Result<T, Refusal>) -> io::Result<()> {
     match answer {
         Ok(value) => writeln!(out, "= {value}"),
-        Err(refusal) => {
-            let number = refusal.number();
-            writeln!(out, "! {number}")
-        }
+        Err(refusal) => refused(out, refusal),
     }
+}
+
+// A line of words.
+pub fn listed(out: &mut Out, words: &[u64]) -> io::Result<()> {
+    let words = Words(words);
+    writeln!(out, "= {words}")
 }
 
 // A line with the number of a call's answer, and the lent words after it.

@@ -1,322 +1,165 @@
 // Queries on the field. Elements are two words, the low one first; a list is its number of words and the words.
-use crate::text::{
-    self, Out, at, list, plus, print, print_bool, print_code, print_line, print_refusal,
-};
-use magnetar_field::gf128::{self, Evaluated, Gf128, ONE};
-use magnetar_field::{sizes, words};
-use magnetar_multilinear::eq::{self, EqBits};
-use magnetar_multilinear::multilinear;
+use magnetar_field::gf128::{Gf128, ONE};
+use magnetar_field::{gf128, sizes, words};
+use magnetar_multilinear::eq::EqBits;
+use magnetar_multilinear::{eq, multilinear};
+use magnetar_replay::show::{Element, Out, Words};
+use magnetar_replay::{line, show};
+use std::alloc::Global;
 use std::io;
+use std::io::Write;
 
-// The queries by name: its letters, the last one lowest.
-const ADD: u64 = 0x616464;
-
-const MUL: u64 = 0x6d756c;
-
-const MULBIT: u64 = 0x6d756c626974;
-
-const ISBIT: u64 = 0x6973626974;
-
-const SQUARE: u64 = 0x737175617265;
-
-const INV: u64 = 0x696e76;
-
-const POW: u64 = 0x706f77;
-
-const CHAIN: u64 = 0x636861696e;
-
-const EQCHAR2: u64 = 0x65716368617232;
-
-const EQ: u64 = 0x6571;
-
-const FUSED: u64 = 0x6675736564;
-
-const EQAT: u64 = 0x65716174;
-
-const EVALMLE: u64 = 0x6576616c6d6c65;
-
-const BIND: u64 = 0x62696e64;
-
-const FOLD: u64 = 0x666f6c64;
-
-const BINDROOM: u64 = 0x62696e64726f6f6d;
-
-const GET: u64 = 0x676574;
-
-const PUT: u64 = 0x707574;
-
-const CLEAR: u64 = 0x636c656172;
-
-const COPY: u64 = 0x636f7079;
-
-const LOG2: u64 = 0x6c6f6732;
-
-const ISPOWER: u64 = 0x6973706f776572;
-
-const EQROOM: u64 = 0x6571726f6f6d;
-
-const MLEROOM: u64 = 0x6d6c65726f6f6d;
-
-pub(crate) fn print_element(stdout: &mut Out, e: Gf128) -> io::Result<()> {
-    let mut w = [0u64; 2];
-    w[0] = e.lo;
-    w[1] = e.hi;
-    print_line(stdout, &w)
-}
-
-pub(crate) fn print_evaluated(stdout: &mut Out, v: Evaluated) -> io::Result<()> {
-    match v {
-        Evaluated::Value(e) => print_element(stdout, e),
-        Evaluated::Refused(code) => print_refusal(stdout, code),
-    }
-}
-
-// eq P C, fused P: the table.
-fn print_table(stdout: &mut Out, code: u32, p: &[u64], out: &[u64]) -> io::Result<()> {
-    if code == 0 {
-        print_line(stdout, text::first(out, text::table_words(p.len() / 2)))
-    } else {
-        print_refusal(stdout, code)
-    }
-}
-
-// eqroom K P C: the outcome where K words are lent for the table.
-fn eqroom(stdout: &mut Out, k: usize, p: &[u64], c: Gf128, out: &mut [u64]) -> io::Result<()> {
-    let room = text::front(out, k);
-    text::fill(room, text::MARK);
-    let code = EqBits::build(p, c, room);
-    print_code(stdout, code, room)
-}
-
-// mleroom K V P: the value where K words are lent as scratch, and these words after the call.
-fn mleroom(stdout: &mut Out, k: usize, v: &[u64], p: &[u64], out: &mut [u64]) -> io::Result<()> {
-    let room = text::front(out, k);
-    text::fill(room, text::MARK);
-    print_evaluated(stdout, multilinear::eval_mle(v, p, room))?;
-    print_line(stdout, room)
-}
-
-// bind VAR T R: the bound table.
-fn bind(stdout: &mut Out, code: u32, table: &[u64]) -> io::Result<()> {
-    if code == 0 {
-        print_line(stdout, text::first(table, table.len() / 2))
-    } else {
-        print_refusal(stdout, code)
-    }
-}
-
-// eqat P BITS: the value of eq at the point and the bits.
-fn eqat(stdout: &mut Out, p: &[u64], bits: &[u64]) -> io::Result<()> {
-    let mut b = [false; 64];
-    let n = bits.len();
-    if n > 64 {
-        return print(stdout, b"? bits\n");
-    }
-    text::bools(bits, &mut b);
-    print_evaluated(stdout, eq::eq_table(p, &b[0..n]))
-}
+// How many words are lent at most.
+const MOST_WORDS: usize = 4096;
 
 // chain 4 A B N: N times the product of A and B in the place of A, and the sum of B and the number of the turn in that
 // of B; A after that.
 fn chain(a: Gf128, b: Gf128, n: u64) -> Gf128 {
     let mut x = a;
     let mut y = b;
-    let mut i: u64 = 0;
-    while i < n {
+    for lo in 0..n {
         x = gf128::mul(x, y);
-        y = gf128::add(y, Gf128 { lo: i, hi: 0 });
-        i += 1;
+        y = y + Gf128 { lo, hi: 0 };
     }
     x
 }
 
-// The answer to a query on two elements, or refusal 0 where it is none.
-fn of_two(op: u64, a: Gf128, b: Gf128, n: u64) -> Evaluated {
-    if op == ADD {
-        return Evaluated::Value(gf128::add(a, b));
-    }
-    if op == MUL {
-        return Evaluated::Value(gf128::mul(a, b));
-    }
-    if op == MULBIT {
-        return Evaluated::Value(gf128::mul_bit(a, b));
-    }
-    if op == CHAIN {
-        return Evaluated::Value(chain(a, b, n));
-    }
-    Evaluated::Refused(0)
-}
-
-// The answer to a query on one element, or refusal 0 where it is none.
-fn of_one(op: u64, a: Gf128, m: u64, n: u64) -> Evaluated {
-    if op == SQUARE {
-        return Evaluated::Value(gf128::square(a));
-    }
-    if op == INV {
-        return Evaluated::Value(gf128::inv(a));
-    }
-    if op == POW {
-        return Evaluated::Value(gf128::pow(a, m, n));
-    }
-    if op == EQCHAR2 {
-        return Evaluated::Value(eq::eq_char2(a, m == 1));
-    }
-    Evaluated::Refused(0)
-}
-
-// Writes an element, or says that there is none.
-fn printed(stdout: &mut Out, v: Evaluated) -> io::Result<bool> {
-    match v {
-        Evaluated::Value(e) => {
-            print_element(stdout, e)?;
-            Ok(true)
-        }
-        Evaluated::Refused(_) => Ok(false),
-    }
-}
-
-// Answers a query on elements, or says that it is none.
-fn elements(stdout: &mut Out, op: u64, nums: &[u64]) -> io::Result<bool> {
-    let v = list(nums, 0);
+// The element that a query on one or two asks for, or nothing where it is none.
+fn element(name: &[u8], nums: &[u64]) -> Option<Gf128> {
+    let (v, more) = line::split_list(nums);
     let a = words::get(v, 0);
-    let i = plus(1, v.len());
-    let m = at(nums, i);
-    if printed(stdout, of_two(op, a, words::get(v, 1), m))? {
-        return Ok(true);
+    let b = words::get(v, 1);
+    let n = line::at(more, 0);
+    match name {
+        b"add" => Some(a + b),
+        b"mul" => Some(gf128::mul(a, b)),
+        b"mulbit" => Some(gf128::mul_bit(a, b)),
+        b"chain" => Some(chain(a, b, n)),
+        b"square" => Some(gf128::square(a)),
+        b"inv" => Some(gf128::inv(a)),
+        b"pow" => Some(gf128::pow(a, n, line::at(more, 1))),
+        b"eqchar2" => Some(eq::eq_char2(a, n == 1)),
+        _ => None,
     }
-    if printed(stdout, of_one(op, a, m, at(nums, plus(i, 1))))? {
-        return Ok(true);
-    }
-    if op == ISBIT {
-        print_bool(stdout, gf128::is_bit(a))?;
-        return Ok(true);
-    }
-    Ok(false)
 }
 
-// Answers a query on tables, or says that it is none.
-fn tables(stdout: &mut Out, op: u64, nums: &[u64], out: &mut [u64]) -> io::Result<bool> {
-    let v = list(nums, 0);
-    let p = list(nums, plus(1, v.len()));
-    if op == EQ {
-        let code = EqBits::build(v, words::get(p, 0), out);
-        print_table(stdout, code, v, out)?;
-        return Ok(true);
-    }
-    if op == FUSED {
-        let code = EqBits::build(v, ONE, out);
-        print_table(stdout, code, v, out)?;
-        return Ok(true);
-    }
-    if op == EQAT {
-        eqat(stdout, v, p)?;
-        return Ok(true);
-    }
-    if op == EVALMLE {
-        print_evaluated(stdout, multilinear::eval_mle(v, p, out))?;
-        return Ok(true);
-    }
-    Ok(false)
+// eq P C, fused P: the table.
+fn table(alloc: Global, out: &mut Out, p: &[u64], c: Gf128) -> io::Result<()> {
+    let mut room = line::marked(alloc, MOST_WORDS)?;
+    let built = EqBits::build(p, c, room.as_mut_slice());
+    let need = sizes::power_of_two(p.len() / 2 + 1);
+    let table = room.as_slice().get(..need).unwrap_or(&[]);
+    show::answer(out, built.map(|_| Words(table)))
 }
 
-// Answers a query that binds a variable, or says that it is none.
-fn bound(stdout: &mut Out, op: u64, n: usize, r: Gf128, table: &mut [u64]) -> io::Result<bool> {
-    if op == BIND {
-        bind(stdout, multilinear::bind_var(table, n, r), table)?;
-        return Ok(true);
-    }
-    if op == FOLD {
-        bind(stdout, multilinear::bind_var(table, n, r), table)?;
-        return Ok(true);
-    }
-    if op == BINDROOM {
-        print_code(stdout, multilinear::bind_var(table, n, r), table)?;
-        return Ok(true);
-    }
-    Ok(false)
+// eqroom K P C: the outcome where K words are lent for the table.
+fn eqroom(alloc: Global, out: &mut Out, k: usize, p: &[u64], c: Gf128) -> io::Result<()> {
+    let mut room = line::marked(alloc, k.min(MOST_WORDS))?;
+    let built = EqBits::build(p, c, room.as_mut_slice());
+    show::written(out, built, room.as_slice())
 }
 
-// Changes words as a query asks, or says that it is none.
-fn changed(op: u64, n: usize, p: &[u64], table: &mut [u64]) -> bool {
-    if op == PUT {
-        words::put(table, n, words::get(p, 0));
-        return true;
-    }
-    if op == CLEAR {
-        words::clear(table);
-        return true;
-    }
-    if op == COPY {
-        words::copy(p, table);
-        return true;
-    }
-    false
+// mleroom K V P: the value where K words are lent as scratch, and these words after the call.
+fn mleroom(alloc: Global, out: &mut Out, k: usize, v: &[u64], p: &[u64]) -> io::Result<()> {
+    let mut room = line::marked(alloc, k.min(MOST_WORDS))?;
+    let value = multilinear::eval_mle(v, p, room.as_mut_slice());
+    show::answer(out, value.map(Element))?;
+    show::listed(out, room.as_slice())
 }
 
-// Answers a query on words, or says that it is none. The list p is an element where one is wanted.
-fn written(stdout: &mut Out, op: u64, n: usize, p: &[u64], table: &mut [u64]) -> io::Result<bool> {
-    if bound(stdout, op, n, words::get(p, 0), table)? {
-        return Ok(true);
+// evalmle V P: the value, with room for it.
+fn evalmle(alloc: Global, out: &mut Out, v: &[u64], p: &[u64]) -> io::Result<()> {
+    let mut room = line::marked(alloc, MOST_WORDS)?;
+    let value = multilinear::eval_mle(v, p, room.as_mut_slice());
+    show::answer(out, value.map(Element))
+}
+
+// eqat P BITS: the value of eq at the point and the bits.
+fn eqat(alloc: Global, out: &mut Out, p: &[u64], bits: &[u64]) -> io::Result<()> {
+    let mut b = Vec::new(alloc);
+    for bit in bits {
+        b.push(*bit == 1)?;
     }
-    if op == GET {
-        print_element(stdout, words::get(table, n))?;
-        return Ok(true);
+    show::answer(out, eq::eq_table(p, b.as_slice()).map(Element))
+}
+
+// Answers a query on a point or a table, or says that it is none.
+fn tables(alloc: Global, out: &mut Out, name: &[u8], nums: &[u64]) -> io::Result<bool> {
+    let v = line::list(nums, 0);
+    let p = line::list(nums, 1);
+    match name {
+        b"eq" => table(alloc, out, v, words::get(p, 0))?,
+        b"fused" => table(alloc, out, v, ONE)?,
+        b"eqat" => eqat(alloc, out, v, p)?,
+        b"evalmle" => evalmle(alloc, out, v, p)?,
+        _ => return Ok(false),
     }
-    if changed(op, n, p, table) {
-        print_line(stdout, table)?;
-        return Ok(true);
+    Ok(true)
+}
+
+// bind VAR T R, fold VAR T R: the bound table; bindroom VAR T R: the outcome with all its words.
+fn bind(alloc: Global, out: &mut Out, name: &[u8], var: usize, v: &[u64], r: Gf128) -> io::Result<()> {
+    let mut table = Vec::from_slice(alloc, v)?;
+    let bound = multilinear::bind_var(table.as_mut_slice(), var, r);
+    let table = table.as_slice();
+    if name == b"bindroom".as_slice() {
+        return show::written(out, bound, table);
     }
-    Ok(false)
+    let half = table.get(..table.len() / 2).unwrap_or(&[]);
+    show::answer(out, bound.map(|_| Words(half)))
+}
+
+// put I V E, clear 0 V, copy 0 V S: the words after that.
+fn change(alloc: Global, out: &mut Out, name: &[u8], i: usize, v: &[u64], p: &[u64]) -> io::Result<()> {
+    let mut table = Vec::from_slice(alloc, v)?;
+    let lent = table.as_mut_slice();
+    match name {
+        b"put" => words::put(lent, i, words::get(p, 0)),
+        b"clear" => words::clear(lent),
+        _ => words::copy(p, lent),
+    }
+    show::listed(out, table.as_slice())
 }
 
 // Answers a query that begins with a number, or says that it is none.
-fn numbered(stdout: &mut Out, op: u64, nums: &[u64], out: &mut [u64]) -> io::Result<bool> {
-    let n = text::size(at(nums, 0));
-    let v = list(nums, 1);
-    let p = list(nums, plus(2, v.len()));
-    if op == EQROOM {
-        eqroom(stdout, n, v, words::get(p, 0), out)?;
-        return Ok(true);
+fn numbered(alloc: Global, out: &mut Out, name: &[u8], nums: &[u64]) -> io::Result<bool> {
+    let n = line::size(nums, 0);
+    let v = line::list_from(nums, 1, 0);
+    let p = line::list_from(nums, 1, 1);
+    let e = words::get(p, 0);
+    match name {
+        b"eqroom" => eqroom(alloc, out, n, v, e)?,
+        b"mleroom" => mleroom(alloc, out, n, v, p)?,
+        b"bind" | b"fold" | b"bindroom" => bind(alloc, out, name, n, v, e)?,
+        b"put" | b"clear" | b"copy" => change(alloc, out, name, n, v, p)?,
+        b"get" => {
+            let e = Element(words::get(v, n));
+            writeln!(out, "= {e}")?;
+        }
+        b"log2" => {
+            let log = sizes::log2(n);
+            writeln!(out, "= {log}")?;
+        }
+        b"ispower" => {
+            let is = sizes::is_power_of_two(n);
+            writeln!(out, "= {is}")?;
+        }
+        _ => return Ok(false),
     }
-    if op == MLEROOM {
-        mleroom(stdout, n, v, p, out)?;
-        return Ok(true);
-    }
-    let table = text::front(out, v.len());
-    words::copy(v, table);
-    written(stdout, op, n, p, table)
-}
-
-// Answers a query on a size, or says that it is none.
-fn sized(stdout: &mut Out, op: u64, n: usize) -> io::Result<bool> {
-    if op == LOG2 {
-        print(stdout, b"= ")?;
-        text::print_count(stdout, sizes::log2(n))?;
-        print(stdout, b"\n")?;
-        return Ok(true);
-    }
-    if op == ISPOWER {
-        print_bool(stdout, sizes::is_power_of_two(n))?;
-        return Ok(true);
-    }
-    Ok(false)
+    Ok(true)
 }
 
 // Answers a query on the field, or says that it is none.
-pub(crate) fn answered(
-    stdout: &mut Out,
-    op: u64,
-    nums: &[u64],
-    out: &mut [u64],
-) -> io::Result<bool> {
-    if sized(stdout, op, text::size(at(nums, 0)))? {
+pub(crate) fn answer(alloc: Global, out: &mut Out, name: &[u8], nums: &[u64]) -> io::Result<bool> {
+    if let Some(e) = element(name, nums) {
+        let e = Element(e);
+        writeln!(out, "= {e}")?;
         return Ok(true);
     }
-    if elements(stdout, op, nums)? {
+    if name == b"isbit".as_slice() {
+        let is = gf128::is_bit(words::get(line::list(nums, 0), 0));
+        writeln!(out, "= {is}")?;
         return Ok(true);
     }
-    if tables(stdout, op, nums, out)? {
-        return Ok(true);
-    }
-    numbered(stdout, op, nums, out)
+    Ok(tables(alloc, out, name, nums)? || numbered(alloc, out, name, nums)?)
 }

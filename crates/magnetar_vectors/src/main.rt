@@ -6,82 +6,47 @@ mod field;
 mod hash;
 mod matrix;
 mod sumcheck;
-mod text;
 
-// Answers a query that has no byte strings, with words to write to, or says that it is none.
-use crate::text::Out;
+use magnetar_replay::show::Out;
+use magnetar_replay::{line, replay};
+use std::alloc::Global;
 use std::io;
-use std::io::{BufWriter, Read, Write};
+use std::io::{BufWriter, Write};
 
-fn of_words(stdout: &mut Out, op: u64, nums: &[u64], out: &mut [u64]) -> io::Result<bool> {
-    if field::answered(stdout, op, nums, out)? {
+// How many numbers a query may have, how many byte strings, and how many letters where it has these.
+const MOST: usize = 4096;
+
+const MOST_STRINGS: usize = 256;
+
+const MOST_LETTERS: usize = 16384;
+
+// Answers the query of a line, or says that it is none.
+fn answer(alloc: Global, out: &mut Out, text: &[u8]) -> io::Result<bool> {
+    let nums = line::numbers(alloc, text)?;
+    if nums.len() > MOST {
+        replay::too_long(out)?;
         return Ok(true);
     }
-    if sumcheck::answered(stdout, op, nums, out)? {
+    let name = line::name(text);
+    let nums = nums.as_slice();
+    if field::answer(alloc, out, name, nums)?
+        || sumcheck::answer(alloc, out, name, nums)?
+        || matrix::answer(alloc, out, name, nums)?
+    {
         return Ok(true);
     }
-    matrix::answered(stdout, op, nums, out)
-}
-
-fn of_numbers(stdout: &mut Out, op: u64, nums: &[u64]) -> io::Result<bool> {
-    let mut out = [0u64; 4096];
-    of_words(stdout, op, nums, &mut out)
-}
-
-// Answers a query by the numbers of its line, or says that it is none.
-fn asked(stdout: &mut Out, op: u64, line: &[u8], nums: &[u64]) -> io::Result<bool> {
-    if of_numbers(stdout, op, nums)? {
+    let strings = line::byte_strings(alloc, text)?;
+    if strings.lens.len() > MOST_STRINGS || text.len() > MOST_LETTERS {
+        replay::too_long(out)?;
         return Ok(true);
     }
-    hash::answered(stdout, op, nums, line)
-}
-
-fn answered(stdout: &mut Out, line: &[u8]) -> io::Result<bool> {
-    let mut nums = [0u64; 4096];
-    let n = text::numbers(line, &mut nums);
-    if n > 4096 {
-        text::too_long(stdout)?;
-        return Ok(true);
-    }
-    asked(stdout, text::name(line), line, text::first(&nums, n))
-}
-
-fn answer(stdout: &mut Out, line: &[u8]) -> io::Result<()> {
-    if text::byte(line, 0) == b'#' {
-        text::print(stdout, line)?;
-        return text::print(stdout, b"\n");
-    }
-    if answered(stdout, line)? {
-        return Ok(());
-    }
-    text::print(stdout, b"? unknown query\n")
-}
-
-fn answer_all(stdout: &mut Out, input: &[u8]) -> io::Result<()> {
-    let mut from = 0;
-    while from < input.len() {
-        let to = text::find(input, from, b'\n');
-        answer(stdout, &input[from..to])?;
-        if to == input.len() {
-            return Ok(());
-        }
-        from = to + 1;
-    }
-    Ok(())
-}
-
-// Answers all that is read.
-fn run(stdout: &mut Out, input: &[u8]) -> io::Result<()> {
-    if input.len() == text::MOST {
-        return text::too_long(stdout);
-    }
-    answer_all(stdout, input)
+    hash::answer(alloc, out, name, nums, &strings)
 }
 
 fn main(rt: HostRuntime) -> io::Result<()> {
-    let mut stdout = BufWriter::new(rt.alloc(), rt.stdout())?;
-    let mut input = Vec::new(rt.alloc());
-    rt.reader().take(text::MOST as u64).read_to_end(&mut input)?;
-    run(&mut stdout, &input)?;
-    stdout.flush()
+    let alloc = rt.alloc();
+    let mut out = BufWriter::new(alloc, rt.stdout())?;
+    let input = replay::read(alloc, rt.reader())?;
+    replay::replay(&mut out, input.as_slice(), |out, text| answer(alloc, out, text))?;
+    out.flush()
 }

@@ -1,546 +1,306 @@
 // Queries on the sum-check. A whole one is asked by its tables and challenges, and answered by a line for each round: the
 // message, whether it is right for the running claim, and the next claim; then the folded tables, a line each; and at the end
 // the terminal values and whether all was right.
-use crate::field::print_evaluated;
-use crate::text::{self, Out, nth, plus, print, print_bool, print_code, print_line};
-use magnetar_field::gf128::{Evaluated, Gf128, ONE};
-use magnetar_field::words;
+use magnetar_field::gf128::{Gf128, ONE, ZERO};
+use magnetar_field::refusal::Refusal;
+use magnetar_field::{sizes, words};
 use magnetar_multilinear::eq::EqBits;
 use magnetar_multilinear::multilinear;
-use magnetar_sumcheck_prover::engine::{self};
-use magnetar_sumcheck_prover::public;
-use magnetar_sumcheck_verifier::verify::{self, Round};
+use magnetar_replay::show::{Element, Out, Words};
+use magnetar_replay::{line, show};
+use magnetar_sumcheck_prover::{engine, public};
+use magnetar_sumcheck_verifier::verify;
+use magnetar_sumcheck_verifier::verify::Round;
+use std::alloc::{AllocError, Global};
 use std::io;
+use std::io::Write;
 
-// The queries by name: its last eight letters, the last one lowest.
-const OUTER: u64 = 0x6f75746572;
+// How many words are lent at most for a message, and how many words a table of a whole sum-check has.
+const MOST_WORDS: usize = 4096;
 
-const INNER: u64 = 0x696e6e6572;
+const TABLE: usize = 128;
 
-const OUTERMSG: u64 = 0x6f757465726d7367;
+// In which order n variables are bound: the highest ones in the first `high` rounds, then the lowest ones.
+#[derive(Clone, Copy)]
+struct Order {
+    high: usize,
+    n: usize,
+}
 
-const INNERMSG: u64 = 0x696e6e65726d7367;
+impl Order {
+    // Which variable of those that are left round i binds.
+    fn bit(self, i: usize) -> usize {
+        if i < self.high && i < self.n {
+            self.n - 1 - i
+        } else {
+            0
+        }
+    }
 
-const OUTEREND: u64 = 0x6f75746572656e64;
+    // Which of all variables that is.
+    fn variable(self, i: usize) -> usize {
+        if i < self.high { self.bit(i) } else { i - self.high }
+    }
 
-const INNEREND: u64 = 0x696e6e6572656e64;
+    // How many words a table has before round i.
+    fn words(self, i: usize) -> usize {
+        sizes::power_of_two(self.n.saturating_sub(i)).saturating_mul(2)
+    }
+}
 
-const ROUND: u64 = 0x726f756e64;
-
-const DROPVAR: u64 = 0x64726f70766172;
-
-const EQPOINTS: u64 = 0x6571706f696e7473;
-
-const EQNEXT: u64 = 0x65716e657874;
-
-// What a sum-check carries from round to round: the product of eq over the bound variables, the running claim, and whether all
-// messages were right.
+// What a sum-check carries from round to round: the running claim, and whether all messages were right.
 #[derive(Clone, Copy)]
 struct Run {
-    k: Gf128,
     claim: Gf128,
     good: bool,
 }
 
-fn start(claim: Gf128) -> Run {
-    Run {
-        k: Gf128 { lo: 1, hi: 0 },
-        claim,
-        good: true,
-    }
-}
-
-fn both(a: bool, b: bool) -> bool {
-    if a { b } else { false }
-}
-
-fn print_element(stdout: &mut Out, e: Gf128) -> io::Result<()> {
-    text::print_word(stdout, e.lo)?;
-    text::print_word(stdout, e.hi)
-}
-
-fn print_claim(stdout: &mut Out, o: Round) -> io::Result<()> {
-    print(stdout, b" 2")?;
-    print_element(stdout, o.claim)?;
-    print(stdout, b"\n")
-}
-
-fn print_message(stdout: &mut Out, msg: &[u64], o: Round) -> io::Result<()> {
-    print(stdout, b"= ")?;
-    text::print_words(stdout, msg)?;
-    print(stdout, b" ")?;
-    text::print_truth(stdout, o.holds)?;
-    print_claim(stdout, o)
-}
-
-// round N MSG 4 CLAIM R
-fn round(stdout: &mut Out, n: usize, msg: &[u64], x: &[u64]) -> io::Result<()> {
-    let o = verify::round_external(msg, n, words::get(x, 0), words::get(x, 1));
-    text::print_judged(stdout, o.code, o.holds)?;
-    print_claim(stdout, o)
-}
-
-// Which variable of those that are left round i of n binds: the highest in the first `high` rounds, then the lowest.
-fn bit(high: usize, n: usize, i: usize) -> usize {
-    if i < high {
-        if i < n {
-            return n - 1 - i;
+impl Run {
+    // After a round whose message was made or refused.
+    fn after(self, round: Round, made: Result<(), Refusal>) -> Run {
+        Run {
+            claim: round.claim,
+            good: self.good && round.holds && made.is_ok(),
         }
     }
-    0
 }
 
-// Which of all variables that is.
-fn variable(high: usize, n: usize, i: usize) -> usize {
-    if i < high {
-        return bit(high, n, i);
-    }
-    i - high
+// The words of a list as a table, which 0 fills up.
+fn table(alloc: Global, list: &[u64]) -> Result<Vec<u64>, AllocError> {
+    let mut table = vec![in alloc; 0u64; TABLE]?;
+    words::copy(list, table.as_mut_slice());
+    Ok(table)
 }
 
-// How many words a table has after i of n rounds.
-fn left(n: usize, i: usize) -> usize {
-    if i < n { text::table_words(n - i) } else { 2 }
+// The first n words.
+fn front(s: &mut [u64], n: usize) -> &mut [u64] {
+    let n = n.min(s.len());
+    &mut s[..n]
+}
+
+fn first(s: &[u64], n: usize) -> &[u64] {
+    s.get(..n).unwrap_or(s)
+}
+
+// What a message leaves of the claim, written behind it.
+fn judge(out: &mut Out, msg: &[u64], n: usize, claim: Gf128, r: Gf128) -> io::Result<Round> {
+    let round = verify::round_external(msg, n, claim, r).unwrap_or(Round {
+        holds: false,
+        claim,
+    });
+    let msg = Words(msg);
+    let holds = round.holds;
+    let next = Element(round.claim);
+    writeln!(out, "= {msg} {holds} {next}")?;
+    Ok(round)
 }
 
 // A table folded, and written down.
-fn fold(stdout: &mut Out, table: &mut [u64], v: usize, r: Gf128) -> io::Result<()> {
-    let code = multilinear::bind_var(table, v, r);
-    print_folded(stdout, code, table)
-}
-
-fn print_folded(stdout: &mut Out, code: u32, table: &[u64]) -> io::Result<()> {
-    if code != 0 {
-        text::print_refusal(stdout, code)?;
+fn fold(out: &mut Out, table: &mut [u64], v: usize, r: Gf128) -> io::Result<()> {
+    if let Err(refusal) = multilinear::bind_var(table, v, r) {
+        show::refused(out, refusal)?;
     }
-    print_line(stdout, text::first(table, table.len() / 2))
+    show::listed(out, first(table, table.len() / 2))
 }
 
-// The four tables of an outer sum-check stand in one slice: eq from word 0 on, A from 128, B from 256 and C from 384.
-fn fold_three(stdout: &mut Out, w: &mut [u64], n: usize, v: usize, r: Gf128) -> io::Result<()> {
-    fold(stdout, text::span(w, 128, plus(128, n)), v, r)?;
-    fold(stdout, text::span(w, 256, plus(256, n)), v, r)?;
-    fold(stdout, text::span(w, 384, plus(384, n)), v, r)
+// The tables of an outer sum-check, and the product of eq over the bound variables.
+#[derive(Drop)]
+struct Tables {
+    e: Vec<u64>,
+    a: Vec<u64>,
+    b: Vec<u64>,
+    c: Vec<u64>,
+    k: Gf128,
 }
 
-// The eq table of the first n words without variable v.
-fn dropped(e: &mut [u64], n: usize, v: usize) -> bool {
-    let e = text::front(e, n);
-    public::drop_var(e, v) == 0
-}
-
-// What is carried on after a round: eq over one variable more, and whether all is right still.
-fn carried(s: Run, o: Round, k: Gf128, fine: bool) -> Run {
-    let claim = o.claim;
-    Run {
-        k,
-        claim,
-        good: both(s.good, both(o.holds, fine)),
+impl Tables {
+    // A round on the tables' first n words, which binds variable v; tau's element is t. Where the table of eq has no such variable, it is left
+    // out.
+    fn round(&mut self, out: &mut Out, run: Run, n: usize, v: usize, t: Gf128, r: Gf128) -> io::Result<Run> {
+        if public::drop_var(front(self.e.as_mut_slice(), n), v).is_err() {
+            return Ok(run);
+        }
+        let mut msg = [0u64; 8];
+        let made = engine::outer_message(
+            &mut msg,
+            first(self.e.as_slice(), n / 2),
+            first(self.a.as_slice(), n),
+            first(self.b.as_slice(), n),
+            first(self.c.as_slice(), n),
+            v,
+            self.k,
+            t,
+        );
+        let round = judge(out, &msg, 4, run.claim, r)?;
+        self.k = public::eq_next(self.k, t, r);
+        fold(out, front(self.a.as_mut_slice(), n), v, r)?;
+        fold(out, front(self.b.as_mut_slice(), n), v, r)?;
+        fold(out, front(self.c.as_mut_slice(), n), v, r)?;
+        Ok(run.after(round, made))
     }
-}
-
-// The message of a round that binds variable v, of the tables' first n words.
-fn message(msg: &mut [u64], w: &[u64], n: usize, v: usize, k: Gf128, t: Gf128) -> u32 {
-    engine::outer_message(
-        msg,
-        text::first(w, n / 2),
-        text::between(w, 128, plus(128, n)),
-        text::between(w, 256, plus(256, n)),
-        text::between(w, 384, plus(384, n)),
-        v,
-        k,
-        t,
-    )
-}
-
-// The same written down, and what it leaves of the claim.
-fn outer_message(
-    stdout: &mut Out,
-    s: Run,
-    w: &[u64],
-    n: usize,
-    v: usize,
-    t: Gf128,
-    r: Gf128,
-) -> io::Result<Run> {
-    let mut msg = [0u64; 8];
-    let k = s.k;
-    let claim = s.claim;
-    let code = message(&mut msg, w, n, v, k, t);
-    let o = verify::round_external(&msg, 4, claim, r);
-    print_message(stdout, &msg, o)?;
-    Ok(carried(s, o, public::eq_next(k, t, r), code == 0))
-}
-
-// A round on the tables' first n words.
-fn outer_round(
-    stdout: &mut Out,
-    s: Run,
-    w: &mut [u64],
-    n: usize,
-    v: usize,
-    t: Gf128,
-    r: Gf128,
-) -> io::Result<Run> {
-    if dropped(w, n, v) {
-        let o = outer_message(stdout, s, w, n, v, t, r)?;
-        fold_three(stdout, w, n, v, r)?;
-        return Ok(o);
-    }
-    Ok(s)
-}
-
-// Round i of n.
-fn outer_turn(
-    stdout: &mut Out,
-    s: Run,
-    w: &mut [u64],
-    high: usize,
-    tau: &[u64],
-    r: &[u64],
-    n: usize,
-    i: usize,
-) -> io::Result<Run> {
-    let t = words::get(tau, variable(high, n, i));
-    outer_round(
-        stdout,
-        s,
-        w,
-        left(n, i),
-        bit(high, n, i),
-        t,
-        words::get(r, i),
-    )
-}
-
-// All n rounds.
-fn outer_rounds(
-    stdout: &mut Out,
-    claim: Gf128,
-    w: &mut [u64],
-    high: usize,
-    tau: &[u64],
-    r: &[u64],
-    n: usize,
-) -> io::Result<Run> {
-    let mut s = start(claim);
-    let mut i = 0;
-    while i < n {
-        s = outer_turn(stdout, s, w, high, tau, r, n, i)?;
-        i += 1;
-    }
-    Ok(s)
-}
-
-// The value of eq, or 0 where it is refused.
-fn value_of(e: Evaluated) -> Gf128 {
-    match e {
-        Evaluated::Value(x) => x,
-        Evaluated::Refused(_) => Gf128 { lo: 0, hi: 0 },
-    }
-}
-
-fn outer_end(stdout: &mut Out, s: Run, e: Gf128, a: Gf128, b: Gf128, c: Gf128) -> io::Result<()> {
-    let claim = s.claim;
-    print(stdout, b"= 8")?;
-    print_element(stdout, e)?;
-    print_element(stdout, a)?;
-    print_element(stdout, b)?;
-    print_element(stdout, c)?;
-    print_good(stdout, s.good, verify::outer_finish(claim, e, a, b, c))
-}
-
-fn print_good(stdout: &mut Out, a: bool, b: bool) -> io::Result<()> {
-    print(stdout, b" ")?;
-    text::print_truth(stdout, both(a, b))?;
-    print(stdout, b"\n")
-}
-
-// Stores the tables A, B and C.
-fn store(nums: &[u64], w: &mut [u64]) {
-    words::copy(nth(nums, 1, 2), text::span(w, 128, 256));
-    words::copy(nth(nums, 1, 3), text::span(w, 256, 384));
-    words::copy(nth(nums, 1, 4), text::span(w, 384, 512));
-}
-
-// The tables of a query, and whether the table of eq was refused.
-fn prepared(nums: &[u64], w: &mut [u64]) -> u32 {
-    store(nums, w);
-    EqBits::build(nth(nums, 1, 1), ONE, text::front(w, 128))
-}
-
-// The rounds, and the end.
-fn outer_of(
-    stdout: &mut Out,
-    w: &mut [u64],
-    high: usize,
-    claim: Gf128,
-    tau: &[u64],
-    r: &[u64],
-) -> io::Result<()> {
-    let s = outer_rounds(stdout, claim, w, high, tau, r, r.len() / 2)?;
-    outer_end(
-        stdout,
-        s,
-        value_of(public::eq_points(tau, r, high)),
-        words::get(w, 64),
-        words::get(w, 128),
-        words::get(w, 192),
-    )
 }
 
 // outer HIGH 2 CLAIM TAU A B C R
-fn outer(stdout: &mut Out, nums: &[u64]) -> io::Result<()> {
-    let mut w = [0u64; 512];
-    let code = prepared(nums, &mut w);
-    outer_of(
-        stdout,
-        &mut w,
-        text::count(nums, 0),
-        words::get(nth(nums, 1, 0), 0),
-        nth(nums, 1, 1),
-        nth(nums, 1, 5),
-    )?;
-    if code != 0 {
-        text::print_refusal(stdout, code)?;
+fn outer(alloc: Global, out: &mut Out, nums: &[u64]) -> io::Result<()> {
+    let high = line::size(nums, 0);
+    let claim = words::get(line::list_from(nums, 1, 0), 0);
+    let tau = line::list_from(nums, 1, 1);
+    let r = line::list_from(nums, 1, 5);
+    let mut tables = Tables {
+        e: table(alloc, &[])?,
+        a: table(alloc, line::list_from(nums, 1, 2))?,
+        b: table(alloc, line::list_from(nums, 1, 3))?,
+        c: table(alloc, line::list_from(nums, 1, 4))?,
+        k: ONE,
+    };
+    let built = EqBits::build(tau, ONE, tables.e.as_mut_slice());
+    let order = Order {
+        high,
+        n: r.len() / 2,
+    };
+    let mut run = Run { claim, good: true };
+    for i in 0..order.n {
+        let t = words::get(tau, order.variable(i));
+        run = tables.round(out, run, order.words(i), order.bit(i), t, words::get(r, i))?;
     }
-    Ok(())
-}
-
-// The message of a round of the inner sum-check, and what it leaves of the claim.
-fn inner_message(
-    stdout: &mut Out,
-    s: Run,
-    t: &[u64],
-    z: &[u64],
-    v: usize,
-    r: Gf128,
-) -> io::Result<Run> {
-    let mut msg = [0u64; 6];
-    let k = s.k;
-    let claim = s.claim;
-    let code = engine::inner_message(&mut msg, t, z, v);
-    let o = verify::round_external(&msg, 3, claim, r);
-    print_message(stdout, &msg, o)?;
-    Ok(carried(s, o, k, code == 0))
-}
-
-// A round on the tables' first n words.
-fn inner_round(
-    stdout: &mut Out,
-    s: Run,
-    t: &mut [u64],
-    z: &mut [u64],
-    n: usize,
-    v: usize,
-    r: Gf128,
-) -> io::Result<Run> {
-    let o = inner_message(stdout, s, text::first(t, n), text::first(z, n), v, r)?;
-    fold(stdout, text::front(t, n), v, r)?;
-    fold(stdout, text::front(z, n), v, r)?;
-    Ok(o)
-}
-
-// Round i of n.
-fn inner_turn(
-    stdout: &mut Out,
-    s: Run,
-    t: &mut [u64],
-    z: &mut [u64],
-    high: usize,
-    r: &[u64],
-    n: usize,
-    i: usize,
-) -> io::Result<Run> {
-    inner_round(
-        stdout,
-        s,
-        t,
-        z,
-        left(n, i),
-        bit(high, n, i),
-        words::get(r, i),
-    )
-}
-
-// All n rounds.
-fn inner_rounds(
-    stdout: &mut Out,
-    claim: Gf128,
-    t: &mut [u64],
-    z: &mut [u64],
-    high: usize,
-    r: &[u64],
-    n: usize,
-) -> io::Result<Run> {
-    let mut s = start(claim);
-    let mut i = 0;
-    while i < n {
-        s = inner_turn(stdout, s, t, z, high, r, n, i)?;
-        i += 1;
+    let e = public::eq_points(tau, r, high).unwrap_or(ZERO);
+    let a = words::get(tables.a.as_slice(), 0);
+    let b = words::get(tables.b.as_slice(), 0);
+    let c = words::get(tables.c.as_slice(), 0);
+    let ends = [e.lo, e.hi, a.lo, a.hi, b.lo, b.hi, c.lo, c.hi];
+    let ends = Words(&ends);
+    let good = run.good && verify::outer_finish(run.claim, e, a, b, c);
+    writeln!(out, "= {ends} {good}")?;
+    match built {
+        Ok(_) => Ok(()),
+        Err(refusal) => show::refused(out, refusal),
     }
-    Ok(s)
-}
-
-fn inner_end(stdout: &mut Out, s: Run, t: Gf128, z: Gf128) -> io::Result<()> {
-    let claim = s.claim;
-    print(stdout, b"= 4")?;
-    print_element(stdout, t)?;
-    print_element(stdout, z)?;
-    print_good(stdout, s.good, verify::inner_finish(claim, t, z))
 }
 
 // inner HIGH 2 CLAIM T Z R
-fn inner(stdout: &mut Out, nums: &[u64]) -> io::Result<()> {
-    let mut t = [0u64; 128];
-    let mut z = [0u64; 128];
-    let high = text::count(nums, 0);
-    let r = nth(nums, 1, 3);
-    words::copy(nth(nums, 1, 1), &mut t);
-    words::copy(nth(nums, 1, 2), &mut z);
-    let s = inner_rounds(
-        stdout,
-        words::get(nth(nums, 1, 0), 0),
-        &mut t,
-        &mut z,
-        high,
-        r,
-        r.len() / 2,
-    )?;
-    inner_end(stdout, s, words::get(&t, 0), words::get(&z, 0))
-}
-
-// Answers a query for a whole sum-check, or says that it is none.
-fn whole(stdout: &mut Out, op: u64, nums: &[u64]) -> io::Result<bool> {
-    if op == OUTER {
-        outer(stdout, nums)?;
-        return Ok(true);
+fn inner(alloc: Global, out: &mut Out, nums: &[u64]) -> io::Result<()> {
+    let claim = words::get(line::list_from(nums, 1, 0), 0);
+    let mut t = table(alloc, line::list_from(nums, 1, 1))?;
+    let mut z = table(alloc, line::list_from(nums, 1, 2))?;
+    let r = line::list_from(nums, 1, 3);
+    let order = Order {
+        high: line::size(nums, 0),
+        n: r.len() / 2,
+    };
+    let mut run = Run { claim, good: true };
+    for i in 0..order.n {
+        let n = order.words(i);
+        let v = order.bit(i);
+        let e = words::get(r, i);
+        let mut msg = [0u64; 6];
+        let made = engine::inner_message(&mut msg, first(t.as_slice(), n), first(z.as_slice(), n), v);
+        let round = judge(out, &msg, 3, run.claim, e)?;
+        run = run.after(round, made);
+        fold(out, front(t.as_mut_slice(), n), v, e)?;
+        fold(out, front(z.as_mut_slice(), n), v, e)?;
     }
-    if op == INNER {
-        inner(stdout, nums)?;
-        return Ok(true);
-    }
-    Ok(false)
+    let t = words::get(t.as_slice(), 0);
+    let z = words::get(z.as_slice(), 0);
+    let ends = [t.lo, t.hi, z.lo, z.hi];
+    let ends = Words(&ends);
+    let good = run.good && verify::inner_finish(run.claim, t, z);
+    writeln!(out, "= {ends} {good}")
 }
 
 // outermsg LENT V E A B C 4 K T
-fn outermsg(stdout: &mut Out, nums: &[u64], room: &mut [u64]) -> io::Result<()> {
-    let p = nth(nums, 2, 4);
-    let code = engine::outer_message(
-        room,
-        nth(nums, 2, 0),
-        nth(nums, 2, 1),
-        nth(nums, 2, 2),
-        nth(nums, 2, 3),
-        text::count(nums, 1),
+fn outermsg(alloc: Global, out: &mut Out, nums: &[u64]) -> io::Result<()> {
+    let mut room = line::marked(alloc, line::size(nums, 0).min(MOST_WORDS))?;
+    let p = line::list_from(nums, 2, 4);
+    let made = engine::outer_message(
+        room.as_mut_slice(),
+        line::list_from(nums, 2, 0),
+        line::list_from(nums, 2, 1),
+        line::list_from(nums, 2, 2),
+        line::list_from(nums, 2, 3),
+        line::size(nums, 1),
         words::get(p, 0),
         words::get(p, 1),
     );
-    print_code(stdout, code, room)
+    show::written(out, made, room.as_slice())
+}
+
+// innermsg LENT V T Z
+fn innermsg(alloc: Global, out: &mut Out, nums: &[u64]) -> io::Result<()> {
+    let mut room = line::marked(alloc, line::size(nums, 0).min(MOST_WORDS))?;
+    let made = engine::inner_message(
+        room.as_mut_slice(),
+        line::list_from(nums, 2, 0),
+        line::list_from(nums, 2, 1),
+        line::size(nums, 1),
+    );
+    show::written(out, made, room.as_slice())
 }
 
 // dropvar V TABLE
-fn dropvar(stdout: &mut Out, v: usize, table: &[u64], out: &mut [u64]) -> io::Result<()> {
-    let room = text::front(out, table.len());
-    words::copy(table, room);
-    print_code(stdout, public::drop_var(room, v), room)
+fn dropvar(alloc: Global, out: &mut Out, nums: &[u64]) -> io::Result<()> {
+    let mut table = Vec::from_slice(alloc, line::list_from(nums, 1, 0))?;
+    let dropped = public::drop_var(table.as_mut_slice(), line::size(nums, 0));
+    show::written(out, dropped, table.as_slice())
 }
 
-// Answers a query on lent words, or says that it is none.
-fn lent(stdout: &mut Out, op: u64, nums: &[u64], out: &mut [u64]) -> io::Result<bool> {
-    let n = text::count(nums, 0);
-    if op == DROPVAR {
-        dropvar(stdout, n, nth(nums, 1, 0), out)?;
-        return Ok(true);
+// round N MSG 4 CLAIM R: whether a message is right, and the next claim.
+fn round(out: &mut Out, nums: &[u64]) -> io::Result<()> {
+    let msg = line::list_from(nums, 1, 0);
+    let x = line::list_from(nums, 1, 1);
+    let claim = words::get(x, 0);
+    match verify::round_external(msg, line::size(nums, 0), claim, words::get(x, 1)) {
+        Ok(round) => {
+            let holds = round.holds;
+            let next = Element(round.claim);
+            writeln!(out, "= {holds} {next}")
+        }
+        Err(refusal) => {
+            let number = refusal.number();
+            let same = Element(claim);
+            writeln!(out, "! {number} {same}")
+        }
     }
-    let room = text::front(out, n);
-    if op == OUTERMSG {
-        text::fill(room, text::MARK);
-        outermsg(stdout, nums, room)?;
-        return Ok(true);
-    }
-    if op == INNERMSG {
-        text::fill(room, text::MARK);
-        print_code(
-            stdout,
-            engine::inner_message(room, nth(nums, 2, 0), nth(nums, 2, 1), text::count(nums, 1)),
-            room,
-        )?;
-        return Ok(true);
-    }
-    Ok(false)
 }
 
-// Answers a query of the verifier, or says that it is none. The elements are the only list, but for `round`.
-fn checks(stdout: &mut Out, op: u64, nums: &[u64]) -> io::Result<bool> {
-    let p = nth(nums, 0, 0);
-    if op == ROUND {
-        round(
-            stdout,
-            text::count(nums, 0),
-            nth(nums, 1, 0),
-            nth(nums, 1, 1),
-        )?;
-        return Ok(true);
+// Answers a query of the verifier on the elements of one list, or says that it is none.
+fn ends(out: &mut Out, name: &[u8], nums: &[u64]) -> io::Result<bool> {
+    let p = line::list(nums, 0);
+    let x = words::get(p, 0);
+    let y = words::get(p, 1);
+    let z = words::get(p, 2);
+    match name {
+        b"outerend" => {
+            let is = verify::outer_finish(x, y, z, words::get(p, 3), words::get(p, 4));
+            writeln!(out, "= {is}")?;
+        }
+        b"innerend" => {
+            let is = verify::inner_finish(x, y, z);
+            writeln!(out, "= {is}")?;
+        }
+        b"eqnext" => {
+            let next = Element(public::eq_next(x, y, z));
+            writeln!(out, "= {next}")?;
+        }
+        _ => return Ok(false),
     }
-    if op == OUTEREND {
-        print_bool(
-            stdout,
-            verify::outer_finish(
-                words::get(p, 0),
-                words::get(p, 1),
-                words::get(p, 2),
-                words::get(p, 3),
-                words::get(p, 4),
-            ),
-        )?;
-        return Ok(true);
-    }
-    if op == INNEREND {
-        print_bool(
-            stdout,
-            verify::inner_finish(words::get(p, 0), words::get(p, 1), words::get(p, 2)),
-        )?;
-        return Ok(true);
-    }
-    Ok(false)
-}
-
-// Answers a query on the eq factor, or says that it is none.
-fn factors(stdout: &mut Out, op: u64, nums: &[u64]) -> io::Result<bool> {
-    if op == EQPOINTS {
-        print_evaluated(
-            stdout,
-            public::eq_points(nth(nums, 1, 0), nth(nums, 1, 1), text::count(nums, 0)),
-        )?;
-        return Ok(true);
-    }
-    if op == EQNEXT {
-        let p = nth(nums, 0, 0);
-        print_evaluated(
-            stdout,
-            Evaluated::Value(public::eq_next(words::get(p, 0), words::get(p, 1), words::get(p, 2))),
-        )?;
-        return Ok(true);
-    }
-    Ok(false)
+    Ok(true)
 }
 
 // Answers a query on the sum-check, or says that it is none.
-pub(crate) fn answered(
-    stdout: &mut Out,
-    op: u64,
-    nums: &[u64],
-    out: &mut [u64],
-) -> io::Result<bool> {
-    if whole(stdout, op, nums)? {
-        return Ok(true);
+pub(crate) fn answer(alloc: Global, out: &mut Out, name: &[u8], nums: &[u64]) -> io::Result<bool> {
+    match name {
+        b"outer" => outer(alloc, out, nums)?,
+        b"inner" => inner(alloc, out, nums)?,
+        b"outermsg" => outermsg(alloc, out, nums)?,
+        b"innermsg" => innermsg(alloc, out, nums)?,
+        b"dropvar" => dropvar(alloc, out, nums)?,
+        b"round" => round(out, nums)?,
+        b"eqpoints" => {
+            let tau = line::list_from(nums, 1, 0);
+            let r = line::list_from(nums, 1, 1);
+            show::answer(out, public::eq_points(tau, r, line::size(nums, 0)).map(Element))?;
+        }
+        _ => return ends(out, name, nums),
     }
-    if lent(stdout, op, nums, out)? {
-        return Ok(true);
-    }
-    if checks(stdout, op, nums)? {
-        return Ok(true);
-    }
-    factors(stdout, op, nums)
+    Ok(true)
 }

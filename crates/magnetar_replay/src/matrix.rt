@@ -1,0 +1,142 @@
+// The functions of a matrix, over its entries in any form: OP LENT SCRATCH ROWS COLS ROW COL LO HI X Y, with as many words lent as LENT and
+// SCRATCH say.
+use crate::line;
+use crate::show;
+use crate::show::{Element, Out, Words};
+use magnetar_field::gf128::Gf128;
+use magnetar_field::refusal::Refusal;
+use magnetar_matrix::entries::{Entries, Slices};
+use magnetar_r1cs::r1cs;
+use std::alloc::{AllocError, Global};
+use std::io;
+use std::io::Write;
+
+// How many words are lent at most, to be written to and as scratch.
+const MOST_WORDS: usize = 4096;
+
+const MOST_SCRATCH: usize = 1024;
+
+// A function of a matrix.
+#[derive(Clone, Copy, PartialEq, Eq)]
+pub enum Function {
+    // Whether all entries are 0 or 1.
+    IsBinary,
+    // X a vector.
+    Apply,
+    // X a batch, Y the public part, and then 2 Q W.
+    Packed,
+    // X the point of the rows.
+    Table,
+    // X the point of the rows, Y that of the columns.
+    At,
+}
+
+// What a function hands back besides words: nothing, a flag or an element.
+#[derive(Clone, Copy, PartialEq, Eq)]
+pub enum Value {
+    Nothing,
+    Flag(bool),
+    Element(Gf128),
+}
+
+// An answer, and the words that were lent for it.
+#[derive(PartialEq, Drop)]
+pub struct Told {
+    pub answer: Result<Value, Refusal>,
+    pub words: Vec<u64>,
+    pub scratch: Vec<u64>,
+}
+
+// The places of a query's entries.
+#[derive(Drop)]
+pub struct Places {
+    pub row: Vec<usize>,
+    pub col: Vec<usize>,
+}
+
+impl Places {
+    pub fn new(alloc: Global, nums: &[u64]) -> Result<Places, AllocError> {
+        Ok(Places {
+            row: line::sizes(alloc, line::list_from(nums, 4, 0))?,
+            col: line::sizes(alloc, line::list_from(nums, 4, 1))?,
+        })
+    }
+
+    // The entries of the query, as four slices.
+    pub fn slices<'a>(&'a self, nums: &'a [u64]) -> Slices<'a> {
+        Slices {
+            row: self.row.as_slice(),
+            col: self.col.as_slice(),
+            lo: line::list_from(nums, 4, 2),
+            hi: line::list_from(nums, 4, 3),
+        }
+    }
+}
+
+impl Function {
+    // The function of a query; nothing where it asks for none.
+    pub fn named(name: &[u8]) -> Option<Function> {
+        match name {
+            b"isbinary" => Some(Function::IsBinary),
+            b"apply" => Some(Function::Apply),
+            b"packed" => Some(Function::Packed),
+            b"table" => Some(Function::Table),
+            b"at" => Some(Function::At),
+            _ => None,
+        }
+    }
+
+    // What it answers.
+    pub fn asked<E: Entries>(self, alloc: Global, nums: &[u64], es: &E) -> Result<Told, AllocError> {
+        let mut words = line::marked(alloc, line::size(nums, 0).min(MOST_WORDS))?;
+        let mut scratch = line::marked(alloc, line::size(nums, 1).min(MOST_SCRATCH))?;
+        let rows = line::size(nums, 2);
+        let cols = line::size(nums, 3);
+        let x = line::list_from(nums, 4, 4);
+        let y = line::list_from(nums, 4, 5);
+        let batch = line::list_from(nums, 4, 6);
+        let out = words.as_mut_slice();
+        let s = scratch.as_mut_slice();
+        let answer = match self {
+            Function::IsBinary => r1cs::is_binary(rows, cols, es).map(Value::Flag),
+            Function::Apply => r1cs::apply(rows, cols, es, x, out).map(|_| Value::Nothing),
+            Function::Packed => {
+                let q = line::size(batch, 0);
+                let w = line::size(batch, 1);
+                r1cs::apply_simd_packed(rows, cols, es, x, y, q, w, out).map(Value::Flag)
+            }
+            Function::Table => {
+                r1cs::eval_mle_table(rows, cols, es, x, out, s).map(|_| Value::Nothing)
+            }
+            Function::At => r1cs::eval_mle_at(rows, cols, es, x, y, s).map(Value::Element),
+        };
+        Ok(Told {
+            answer,
+            words,
+            scratch,
+        })
+    }
+
+    // The answer, and the lent words that come with it.
+    pub fn write(self, out: &mut Out, told: &Told) -> io::Result<()> {
+        match told.answer {
+            Ok(Value::Flag(flag)) => writeln!(out, "= {flag}")?,
+            Ok(Value::Element(e)) => {
+                let e = Element(e);
+                writeln!(out, "= {e}")?;
+            }
+            Ok(Value::Nothing) => show::written(out, Ok(()), told.words.as_slice())?,
+            Err(refusal) => match self {
+                Function::Apply | Function::Table => {
+                    show::written(out, told.answer, told.words.as_slice())?
+                }
+                _ => show::refused(out, refusal)?,
+            },
+        }
+        match self {
+            Function::Packed => show::listed(out, told.words.as_slice()),
+            Function::Table | Function::At => show::listed(out, told.scratch.as_slice()),
+            _ => Ok(()),
+        }
+    }
+}
