@@ -9,7 +9,12 @@ use std::io;
 use std::io::Write;
 
 // The step in place, with a local lent.
-fn in_place(alloc: Global, step: Step<'_>, t: Transcript, label: &[u8]) -> Result<Told, AllocError> {
+fn in_place(
+    alloc: Global,
+    step: Step<'_>,
+    t: Transcript,
+    label: &[u8],
+) -> Result<Told, AllocError> {
     let mut lent = t;
     let mut words = step.room(alloc)?;
     let answer = match step {

@@ -14,7 +14,7 @@ use magnetar_field::refusal::{Refusal, require};
 // Document 01's bound for refusal 14.
 const COUNTER_LIMIT: u64 = 0x100000000;
 
-#[derive(Clone, Copy)]
+#[derive(Clone, Copy, Debug, PartialEq, Eq)]
 pub struct Transcript {
     pub state: [u8; 32],
     pub squeeze_ctr: u64,

@@ -1,8 +1,7 @@
 // The functions of a matrix, over its entries in any form: OP LENT SCRATCH ROWS COLS ROW COL LO HI X Y, with as many words lent as LENT and
 // SCRATCH say.
-use crate::line;
-use crate::show;
 use crate::show::{Element, Out, Words};
+use crate::{line, show};
 use magnetar_field::gf128::Gf128;
 use magnetar_field::refusal::Refusal;
 use magnetar_matrix::entries::{Entries, Slices};
@@ -87,7 +86,12 @@ impl Function {
     }
 
     // What it answers.
-    pub fn asked<E: Entries>(self, alloc: Global, nums: &[u64], es: &E) -> Result<Told, AllocError> {
+    pub fn asked<E: Entries>(
+        self,
+        alloc: Global,
+        nums: &[u64],
+        es: &E,
+    ) -> Result<Told, AllocError> {
         let mut words = line::marked(alloc, line::size(nums, 0).min(MOST_WORDS))?;
         let mut scratch = line::marked(alloc, line::size(nums, 1).min(MOST_SCRATCH))?;
         let rows = line::size(nums, 2);

@@ -98,7 +98,14 @@ fn tables(alloc: Global, out: &mut Out, name: &[u8], nums: &[u64]) -> io::Result
 }
 
 // bind VAR T R, fold VAR T R: the bound table; bindroom VAR T R: the outcome with all its words.
-fn bind(alloc: Global, out: &mut Out, name: &[u8], var: usize, v: &[u64], r: Gf128) -> io::Result<()> {
+fn bind(
+    alloc: Global,
+    out: &mut Out,
+    name: &[u8],
+    var: usize,
+    v: &[u64],
+    r: Gf128,
+) -> io::Result<()> {
     let mut table = Vec::from_slice(alloc, v)?;
     let bound = multilinear::bind_var(table.as_mut_slice(), var, r);
     let table = table.as_slice();
@@ -110,7 +117,14 @@ fn bind(alloc: Global, out: &mut Out, name: &[u8], var: usize, v: &[u64], r: Gf1
 }
 
 // put I V E, clear 0 V, copy 0 V S: the words after that.
-fn change(alloc: Global, out: &mut Out, name: &[u8], i: usize, v: &[u64], p: &[u64]) -> io::Result<()> {
+fn change(
+    alloc: Global,
+    out: &mut Out,
+    name: &[u8],
+    i: usize,
+    v: &[u64],
+    p: &[u64],
+) -> io::Result<()> {
     let mut table = Vec::from_slice(alloc, v)?;
     let lent = table.as_mut_slice();
     match name {

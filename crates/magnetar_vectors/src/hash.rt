@@ -3,9 +3,8 @@
 use magnetar_field::gf128::{Gf128, ZERO};
 use magnetar_field::refusal::Refusal;
 use magnetar_field::words;
-use magnetar_hash::sha3;
-use magnetar_hash::transcript;
 use magnetar_hash::transcript::{Drawn, Transcript};
+use magnetar_hash::{sha3, transcript};
 use magnetar_prover::capture;
 use magnetar_replay::line;
 use magnetar_replay::line::Strings;
@@ -82,7 +81,10 @@ fn hashes(
             let b = strings.at(1).first().copied().unwrap_or(0);
             sha3rep(alloc, out, line::size(nums, 0), b)?;
         }
-        b"parts" => print_hash(out, sha3::sha3_domain(strings.between(0, all), strings.lens(0, all)))?,
+        b"parts" => print_hash(
+            out,
+            sha3::sha3_domain(strings.between(0, all), strings.lens(0, all)),
+        )?,
         b"partslens" => {
             let lens = line::sizes(alloc, line::list_from(nums, 1, 0))?;
             print_hash(out, sha3::sha3_domain(first, lens.as_slice()))?;
@@ -129,7 +131,13 @@ fn rawdraw(out: &mut Out, t: Transcript, label: &[u8]) -> io::Result<()> {
 }
 
 // rawdrawvec S C L K: as many draws as K lent words have room for.
-fn rawdrawvec(alloc: Global, out: &mut Out, t: Transcript, label: &[u8], k: usize) -> io::Result<()> {
+fn rawdrawvec(
+    alloc: Global,
+    out: &mut Out,
+    t: Transcript,
+    label: &[u8],
+    k: usize,
+) -> io::Result<()> {
     let mut room = line::marked(alloc, k.min(MOST_WORDS))?;
     let state = State(transcript::draw_vec(t, label, room.as_mut_slice()));
     let words = Words(room.as_slice());

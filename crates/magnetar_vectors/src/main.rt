@@ -47,6 +47,10 @@ fn main(rt: HostRuntime) -> io::Result<()> {
     let alloc = rt.alloc();
     let mut out = BufWriter::new(alloc, rt.stdout())?;
     let input = replay::read(alloc, rt.reader())?;
-    replay::replay(&mut out, input.as_slice(), |out, text| answer(alloc, out, text))?;
+    replay::replay(
+        &mut out,
+        input.as_slice(),
+        |out, text| answer(alloc, out, text),
+    )?;
     out.flush()
 }

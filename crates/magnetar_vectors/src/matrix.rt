@@ -103,7 +103,10 @@ fn layouts(alloc: Global, out: &mut Out, name: &[u8], nums: &[u64]) -> io::Resul
     match name {
         b"layout" => offsets(alloc, out, n, w, lens)?,
         b"reading" => reading(out, n, w, lens)?,
-        b"segment" => show::listed(out, layout::segment(line::list_from(nums, 2, 1), w, lens, n))?,
+        b"segment" => show::listed(
+            out,
+            layout::segment(line::list_from(nums, 2, 1), w, lens, n),
+        )?,
         _ => return Ok(false),
     }
     Ok(true)

@@ -39,7 +39,11 @@ impl Order {
 
     // Which of all variables that is.
     fn variable(self, i: usize) -> usize {
-        if i < self.high { self.bit(i) } else { i - self.high }
+        if i < self.high {
+            self.bit(i)
+        } else {
+            i - self.high
+        }
     }
 
     // How many words a table has before round i.
@@ -116,7 +120,15 @@ struct Tables {
 impl Tables {
     // A round on the tables' first n words, which binds variable v; tau's element is t. Where the table of eq has no such variable, it is left
     // out.
-    fn round(&mut self, out: &mut Out, run: Run, n: usize, v: usize, t: Gf128, r: Gf128) -> io::Result<Run> {
+    fn round(
+        &mut self,
+        out: &mut Out,
+        run: Run,
+        n: usize,
+        v: usize,
+        t: Gf128,
+        r: Gf128,
+    ) -> io::Result<Run> {
         if public::drop_var(front(self.e.as_mut_slice(), n), v).is_err() {
             return Ok(run);
         }
@@ -193,7 +205,12 @@ fn inner(alloc: Global, out: &mut Out, nums: &[u64]) -> io::Result<()> {
         let v = order.bit(i);
         let e = words::get(r, i);
         let mut msg = [0u64; 6];
-        let made = engine::inner_message(&mut msg, first(t.as_slice(), n), first(z.as_slice(), n), v);
+        let made = engine::inner_message(
+            &mut msg,
+            first(t.as_slice(), n),
+            first(z.as_slice(), n),
+            v,
+        );
         let round = judge(out, &msg, 3, run.claim, e)?;
         run = run.after(round, made);
         fold(out, front(t.as_mut_slice(), n), v, e)?;
@@ -298,7 +315,10 @@ pub(crate) fn answer(alloc: Global, out: &mut Out, name: &[u8], nums: &[u64]) ->
         b"eqpoints" => {
             let tau = line::list_from(nums, 1, 0);
             let r = line::list_from(nums, 1, 1);
-            show::answer(out, public::eq_points(tau, r, line::size(nums, 0)).map(Element))?;
+            show::answer(
+                out,
+                public::eq_points(tau, r, line::size(nums, 0)).map(Element),
+            )?;
         }
         _ => return ends(out, name, nums),
     }
