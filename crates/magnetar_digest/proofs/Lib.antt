@@ -1,5 +1,4 @@
 pub mod FedLaws
-pub mod Sizes
 pub mod Ends
 pub mod OneRelation
 pub mod LentWords

@@ -5,8 +5,7 @@ use Rattle.std.specs.Prelude.{◌≡◌, ℕ, ◌/◌, ◌%◌, ◌^◌, ◌<◌
 use mathlib.Core.List.{flat_map}
 use Rattle.magnetar_field.specs.Refusal.{unless_refused}
 use Rattle.magnetar_hash.specs.Bytes.{ascii, word_bytes}
-use Rattle.magnetar_hash.specs.Parts.{sha3_domain, no_digest}
-use Rattle.magnetar_hash.specs.declared.sha3.DigestAnswer.{DigestAnswer}
+use Rattle.magnetar_hash.specs.Parts.{DigestAnswer, sha3_domain, no_digest}
 use Rattle.magnetar_layout.specs.Tests.{first_refusal, size_tests, layout_tests}
 use Rattle.magnetar_matrix.specs.Matrix.{Entry}
 use Rattle.magnetar_relation.specs.declared.shapes.Shape.{Shape}

@@ -1,12 +1,9 @@
 -- The digest's numbers as the code feeds them to the hash. Only the contracts of private functions cite these definitions.
 -- Assumes nothing.
 use Rattle.std.specs.Prelude.{ℕ, ◌+◌, ◌*◌, ◌%◌, ◌^◌, List, [], ◌∷◌, length}
-use Rattle.magnetar_field.specs.Refusal.{unless_refused}
 use Rattle.magnetar_hash.specs.Bytes.{word_bytes}
-use Rattle.magnetar_hash.specs.Parts.{no_digest}
 use Rattle.magnetar_hash.specs.Sponge.{fed, within, started}
 use Rattle.magnetar_hash.specs.declared.hasher.Sponge.{Sponge}
-use Rattle.magnetar_hash.specs.declared.sha3.DigestAnswer.{DigestAnswer}
 use Rattle.magnetar_relation.specs.declared.shapes.Shapes.{Shapes}
 use Rattle.magnetar_digest.specs.Digest.{domain, head_numbers}
 
@@ -26,7 +23,3 @@ size_of l n = 8 * (21 + l + 4 * n) % 2 ^ 64
 -- the hash is started, for n entries, and fed the numbers in front of them
 unfoldable pub head_fed : (m q : ℕ) → List ℕ → Shapes → ℕ → Sponge
 head_fed m q ns s n = words_fed (started domain (size_of (length ns) n)) (head_numbers m q ns s)
-
--- the answer with the refusal z, or the digest d
-abbrev pub answered : ℕ → List ℕ → DigestAnswer
-answered z d = record { code = z; digest = unless_refused z d no_digest }

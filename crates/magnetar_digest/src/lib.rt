@@ -1,6 +1,5 @@
-// A digest of a relation as it is lent, for callers to bind the relation before a run: over number slices and over entry records.
+// A digest of a relation as it is lent, for callers to bind the relation before a run: over entries in whichever form they are lent.
 #![tactic(auto)]
 
 pub mod digest;
-pub mod digest_records;
 mod steps;

@@ -7,4 +7,4 @@ pub returns : goal.returns
 unfolding words_fed
 returns c =
     let a = c.args in
-    c.feed.ensures ∙ ap (words_fed a.s) (entry-words a.row a.col a.lo a.hi (search rules))
+    c.feed.ensures ∙ ap (words_fed a.s) (entry-words a.e.row a.e.col a.e.lo a.e.hi (search rules))
