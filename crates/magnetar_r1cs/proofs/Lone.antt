@@ -185,11 +185,11 @@ places-is a r z e = go (all_below a.rows a.row) (all_below a.cols a.col) (rw (in
     go false d h = rw h
 
 -- ---- products of sizes
-pub words-fit : (q w : ℕ) → q ≤ 4096 → w ≤ 32768 → q * login_words w ≤ 2097152
-words-fit q w h l = product-most q (login_words w) h (words-most w l)
+pub words_fit : (q w : ℕ) → q ≤ 4096 → w ≤ 32768 → q * login_words w ≤ 2097152
+words_fit q w h l = product-most q (login_words w) h (words-most w l)
 
-pub public-fit : (q w : ℕ) → q ≤ 4096 → w ≤ 32768 → q * (2 * w - 2) ≤ 536870912
-public-fit q w h l = product-fits q (2 * w - 2) h (omega arith)
+pub public_fit : (q w : ℕ) → q ≤ 4096 → w ≤ 32768 → q * (2 * w - 2) ≤ 536870912
+public_fit q w h l = product-fits q (2 * w - 2) h (omega arith)
 
 pub rows_fit : (q n : ℕ) → q ≤ 4096 → n ≤ 65536 → q * n ≤ 536870912
 rows_fit q n h l = product-fits q n h (omega arith)

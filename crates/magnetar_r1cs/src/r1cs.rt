@@ -254,6 +254,7 @@ fn size_refusal(q: usize, w: usize) -> Result<(), Refusal>
 }
 
 // 2 of so many packed words.
+#[tactic(auto, using(magnetar_layout::proofs::Passing::passing, crate::proofs::Lone::words_fit), unfolding(magnetar_layout::specs::Tests::or_refuse))]
 fn packed_refusal(packed: usize, q: usize, w: usize) -> Result<(), Refusal>
     requires { (w ≤ 32768) × (q ≤ 4096) }
     ensures { number_of result ≡ first_refusal 0 (packed_tests_of w q packed) }
@@ -262,6 +263,7 @@ fn packed_refusal(packed: usize, q: usize, w: usize) -> Result<(), Refusal>
 }
 
 // 3 of so many public words.
+#[tactic(auto, using(magnetar_layout::proofs::Passing::passing, crate::proofs::Lone::public_fit), unfolding(magnetar_layout::specs::Tests::or_refuse))]
 fn public_refusal(x: usize, q: usize, w: usize) -> Result<(), Refusal>
     requires { (1 ≤ w) × (w ≤ 32768) × (q ≤ 4096) }
     ensures { number_of result ≡ first_refusal 0 (public_tests_of (2 * w) q x) }
