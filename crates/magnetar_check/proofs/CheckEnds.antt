@@ -1,13 +1,20 @@
 -- How the row check ends: what the search and the steps leave is the verdict that the relation gives, and what the entry leaves.
 -- Assumes nothing.
-use Rattle.std.specs.Prelude.{◌≡◌, ℕ, ◌+◌, ◌-◌, ◌*◌, ◌/◌, ◌<◌, ◌≤◌, max, Bool, true, false, cond, not, eqb, ltb, List, [], ◌∷◌, ◌++◌, length, drop, replicate}
+use Rattle.std.specs.Prelude.{◌≡◌, ℕ, ◌+◌, ◌-◌, ◌*◌, ◌/◌, ◌<◌, ◌≤◌, max, Bool, true, false, cond, not, eqb, ltb, leb, Result, Ok, Err, List, [], ◌∷◌, ◌++◌, length, drop, replicate}
+use Rattle.std.specs.Result.{IsErrAnd}
+use Rattle.magnetar_field.specs.declared.refusal.Refusal.{Refusal}
+use Rattle.magnetar_field.specs.Number.{number, number_of}
+use Rattle.magnetar_field.proofs.Handed.{handed}
 use mathlib.Core.Path.{refl, sym, ap, ap₂, ◌∙◌}
 use native.Mathlib.Omega.{arith}
 use lib.Seq.{drop-drop}
-use borrow.Author.Tests.{eqb-true, eqb-false, eq-eqb, ne_eqb, ltb-true, ltb-false, lt-ltb, le-ltb, le-leb}
+use borrow.Author.Tests.{eq-eqb, ne_eqb, ltb-true, ltb-false, leb-true, leb-false, lt-ltb, le-ltb, le-leb, not-false}
 use Rattle.magnetar_layout.specs.Tests.{Tests, first_refusal, size_tests, packed_tests, public_tests, layout_tests}
 use Rattle.magnetar_layout.proofs.FirstRefusal.{first-refusal-clear, front-none, rest-none}
-use Rattle.magnetar_layout.proofs.Laid.{even-size}
+use Rattle.magnetar_layout.proofs.Laid.{even-size, layout-own}
+use Rattle.magnetar_layout.proofs.Passing.{cleared}
+use Rattle.magnetar_layout.proofs.Refused.{number-positive}
+use Rattle.magnetar_layout.specs.Entries.{layout_refusal}
 use Rattle.magnetar_layout.proofs.SizeLaws.{not-bad}
 use Rattle.magnetar_matrix.specs.Matrix.{System}
 use Rattle.magnetar_matrix.specs.Batch.{Relation, assignment}
@@ -22,12 +29,12 @@ use Rattle.magnetar_relation.specs.Rules.{Rules, relation_of, in_relation}
 use Rattle.magnetar_relation.specs.RuleTests.{rule_tests, rule_tests_by, shape_tests, number_tests, total}
 use Rattle.magnetar_relation.specs.Steps.{cleared_to, login_z}
 use Rattle.magnetar_relation.specs.Stray.{searched, stray_refusal, stray_outcome}
-use Rattle.magnetar_relation.specs.Stray.StrayAnswer.{clear, bit}
-use Rattle.magnetar_relation.proofs.RuleLaws.{given-group, join-none}
-use Rattle.magnetar_check.specs.declared.check.Found.{Found}
-use Rattle.magnetar_check.specs.Check.{Outcome, check_scratch_tests, check_tests_by, check_scratch_of, check_refusal, Checked, check_outcome}
+use Rattle.magnetar_relation.specs.Stray.StrayAnswer.{clear, bit, refused as unsearched}
+use Rattle.magnetar_relation.proofs.RuleLaws.{join-none}
+use Rattle.magnetar_check.specs.declared.check.RowCheck.{RowCheck}
+use Rattle.magnetar_check.specs.Check.{Outcome, check_scratch_tests, check_scratch_of, check_refusal, Checked, checked, check_outcome}
 use Rattle.magnetar_check.specs.Check.Outcome.{judged, refused}
-use Rattle.magnetar_check.specs.CheckSteps.{nothing, stray_found, Judged, from, system_done, both_done, both_words, answer_of}
+use Rattle.magnetar_check.specs.CheckSteps.{Found, nothing, stray_found, Judged, from, system_done, both_done, both_words, answer_of}
 use Rattle.magnetar_check.proofs.SystemWalk.{length-kept, behind-kept, found-kept, found_none, found_first}
 
 -- ---- the first login of a system with a row that does not hold
@@ -184,32 +191,31 @@ module _ (R : Relation) (w : ℕ) (ws x : List ℕ) (r : Found) (l : List ℕ) (
       go true b right e = right e
       go false b right e = rw (kept (rw e (λ z. omega (arith, z))), e)
 
--- ---- the refusal by numbers
-pub sixth-over : (n k room : ℕ) → ltb (room / 6) (max n k) ≡ ltb room (6 * max n k)
-sixth-over n k room = go (ltb (room / 6) (max n k)) refl
+-- ---- the refusal
+-- 15, by a quotient
+pub sixth-over : (n k room : ℕ) → not (leb (max n k) (room / 6)) ≡ ltb room (6 * max n k)
+sixth-over n k room = go (leb (max n k) (room / 6)) refl
   where
-    go : (b : Bool) → ltb (room / 6) (max n k) ≡ b → ltb (room / 6) (max n k) ≡ ltb room (6 * max n k)
-    go true b = b ∙ sym (lt-ltb room (6 * max n k) (omega (arith, ltb-true (room / 6) (max n k) b)))
-    go false b = b ∙ sym (le-ltb room (6 * max n k) (omega (arith, ltb-false (room / 6) (max n k) b)))
+    go : (b : Bool) → leb (max n k) (room / 6) ≡ b → not b ≡ ltb room (6 * max n k)
+    go true b = sym (le-ltb room (6 * max n k) (omega (arith, leb-true (max n k) (room / 6) b)))
+    go false b = sym (lt-ltb room (6 * max n k) (omega (arith, leb-false (max n k) (room / 6) b)))
 
 module _ (R : Rules) (ws x : List ℕ) (room : ℕ) where
-  abbrev front : Tests
+  abbrev pub front : Tests
   front = size_tests R.m R.q ++ (packed_tests (R.m / 2) R.q ws ++ public_tests R.m R.q x)
 
-  abbrev layout : Tests
+  abbrev pub layout : Tests
   layout = layout_tests (R.m / 2) R.lengths
 
-  abbrev room-tests : Tests
+  abbrev pub room-tests : Tests
   room-tests = check_scratch_tests R.shapes.bin.a.rows R.shapes.fld.a.rows room
 
-  abbrev back : Tests
+  abbrev pub back : Tests
   back = layout ++ room-tests
 
-  pub check-by : (z y : ℕ) → z ≡ first_refusal 0 (rule_tests R)
-      → y ≡ first_refusal 0 (check_tests_by z R.m R.q R.shapes.bin.a.rows R.shapes.fld.a.rows (length ws) (length x) R.lengths room)
-      → y ≡ check_refusal R ws x room
-  unfolding check_refusal
-  check-by z y e f = f ∙ given-group front (rule_tests R) back z e
+  -- 8 to 10, as the layout's own refusal says them
+  pub laid-own : 0 ≡ first_refusal 0 front → layout_refusal (R.m / 2) R.lengths ≡ first_refusal 0 layout
+  laid-own e = layout-own R.m R.lengths (not-false _ (cleared front refl e).0)
 
   -- what is known where nothing is refused
   record CheckFits : Type 0 where
@@ -248,9 +254,16 @@ module _ (R : Rules) (ws x l : List ℕ) (n : ℕ) (refusal : n ≡ check_refusa
   abbrev ends_as : Outcome → List ℕ → Checked
   ends_as o s = record { answer = o; scratch = s }
 
-  pub check-back : (n ≡ 0 → ⊥) → ends_as (refused n) l ≡ check_outcome R ws x l
-  unfolding check_outcome
-  check-back h = rw (← refusal, ne_eqb n 0 h)
+  -- what a `?` hands out
+  pub check-back : (r : Result RowCheck Refusal) (e : Refusal) → IsErrAnd r (λ y. y ≡ e) → n ≡ number e → checked r l ≡ check_outcome R ws x l
+  check-back r e h f = go r (handed r e h ∙ sym f)
+    where
+      back-is : (n ≡ 0 → ⊥) → ends_as (refused n) l ≡ check_outcome R ws x l
+      back-is z = unfold check_outcome in rw (← refusal, ne_eqb n 0 z)
+
+      go : (r : Result RowCheck Refusal) → number_of r ≡ n → checked r l ≡ check_outcome R ws x l
+      go (Ok v) k = let p = number-positive e in absurd (omega arith)
+      go (Err y) k = let p = number-positive y in rw k (back-is (λ z. omega arith))
 
   module _ (w : ℕ) (ew : w ≡ R.m / 2) where
     abbrev first_found : Found
@@ -273,14 +286,15 @@ module _ (R : Rules) (ws x l : List ℕ) (n : ℕ) (refusal : n ≡ check_refusa
         let c = words_are (relation_of R) w ws x r₀ l f.bin f.fld f.enough in
         ap₂ ends_as (eo ∙ (ap (answer_of 0) e.0 ∙ a)) (e.1 ∙ c) ∙ rw (← refusal, z, ew)
 
-    -- by both ways
-    pub check-ends : (r₀ r : Found) (s : List ℕ) (o : Outcome) → r₀ ≡ cond (eqb n 0) first_found nothing
-        → (r ≡ cond (eqb n 0) (done r₀).found r₀) × (s ≡ cond (eqb n 0) (left r₀) l)
-        → o ≡ answer_of n r → ends_as o s ≡ check_outcome R ws x l
-    unfolding answer_of
-    check-ends r₀ r s o e₀ e eo = at (eqb n 0) refl e₀ e.0 e.1
+    -- the search for a stray bit refuses nothing then
+    pub unstray-is : n ≡ 0 → (i : ℕ) → unsearched i ≡ stray_outcome R.q w R.lengths ws → ⊥
+    unfolding searched
+    unstray-is z i e = not-refused (eqb (stray_login R.q w R.lengths (unpacked R.q w ws)) R.q) (e ∙ rw u)
       where
-        at : (b : Bool) → eqb n 0 ≡ b → r₀ ≡ cond b first_found nothing → r ≡ cond b (done r₀).found r₀ → s ≡ cond b (left r₀) l
-            → ends_as o s ≡ check_outcome R ws x l
-        at true h e₀ er es = let z = eqb-true n 0 h in check_done r₀ r s o z e₀ (er, es) (eo ∙ ap (λ (i : ℕ). answer_of i r) z)
-        at false h e₀ er es = let z = eqb-false n 0 h in ap₂ ends_as (eo ∙ rw (ne_eqb n 0 z)) es ∙ check-back z
+        u : stray_refusal R.q w R.lengths ws ≡ 0
+        u = rw ew (check-fits R ws x (length l) (sym refusal ∙ z)).unstray
+
+        not-refused : (b : Bool) → unsearched i ≡ cond b clear (bit (stray_login R.q w R.lengths (unpacked R.q w ws))
+            (stray_column w R.lengths (unpacked R.q w ws) (stray_login R.q w R.lengths (unpacked R.q w ws)))) → ⊥
+        not-refused true e = cc
+        not-refused false e = cc

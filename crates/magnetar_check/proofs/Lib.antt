@@ -1,5 +1,4 @@
 pub mod RowWalk
 pub mod SystemWalk
 pub mod CheckEnds
-pub mod CheckWalk
 pub mod Exactly

@@ -1,24 +1,24 @@
 -- How the row check goes, step by step: what is behind other elements, a login's three products, what is found in them, and login by login.
 -- Assumes nothing.
-use Rattle.std.specs.Prelude.{◌≡◌, ℕ, ◌+◌, ◌-◌, ◌*◌, ◌<◌, ◌≤◌, min, max, Bool, true, false, cond, eqb, leb, List, [], ◌∷◌, ◌++◌, length, take, drop}
+use Rattle.std.specs.Prelude.{◌≡◌, ℕ, zero, suc, ◌+◌, ◌*◌, ◌<◌, ◌≤◌, min, Bool, true, false, cond, eqb, leb, List, [], ◌∷◌, ◌++◌, length, take, drop}
 use mathlib.Core.Path.{refl, sym, ap, ap₂, ◌∙◌}
 use native.Mathlib.Numerals.{add-one}
 use native.Mathlib.Omega.{arith}
 use lib.ListN.{take-append-drop, length-append}
 use lib.Seq.{take_at, drop_at, length-take-le}
-use borrow.Author.Tests.{leb-true, le-leb, lt-leb, lt-ltb, le-ltb, ne_eqb}
+use borrow.Author.Tests.{leb-true, le-leb, lt-leb, lt-ltb, le-ltb, ne_eqb, eqb-true, eqb-false}
 use Rattle.magnetar_field.specs.Words.{elements}
 use Rattle.magnetar_matrix.specs.Matrix.{Entry, Matrix, System, share}
-use Rattle.magnetar_matrix.specs.Packed.{login_part, public_part, z_of}
-use Rattle.magnetar_matrix.specs.RowCheck.{first_not, holds_at}
+use Rattle.magnetar_matrix.specs.Batch.{Relation}
+use Rattle.magnetar_matrix.specs.RowCheck.{Verdict, first_not, holds_at}
+use Rattle.magnetar_matrix.specs.RowCheck.Verdict.{good, stray, bin, fld}
 use Rattle.magnetar_relation.specs.declared.shapes.SystemShape.{SystemShape}
-use Rattle.magnetar_relation.specs.declared.shapes.Shapes.{Shapes}
-use Rattle.magnetar_relation.specs.Rules.{matrix_at, entries_in, system_at}
+use Rattle.magnetar_relation.specs.Rules.{system_at}
 use Rattle.magnetar_relation.specs.Steps.{cleared_to, added_to, added_all, behind, login_z}
 use Rattle.magnetar_relation.specs.EntryWalks.{fold_entries}
-use Rattle.magnetar_relation.proofs.RangeLaws.{same_drop, system-cut}
-use Rattle.magnetar_check.specs.declared.check.Found.{Found}
-use Rattle.magnetar_check.specs.CheckSteps.{share_added, product_behind, twice_of, three_in, row_in, failing_in, Judged, from, login_done, system_done}
+use Rattle.magnetar_relation.proofs.RangeLaws.{same_drop}
+use Rattle.magnetar_check.specs.CheckSteps.{Found, share_added, product_behind, twice_of, three_in, row_in, nothing, failing_in, Judged, from, login_done, system_done, both_done, answer_of}
+use Rattle.magnetar_check.specs.Check.Outcome.{judged}
 
 -- ---- what is behind the first m elements
 abbrev on : Bool → ℕ → (List ℕ → List ℕ) → List ℕ → List ℕ
@@ -62,9 +62,9 @@ pub product_is : (m n : ℕ) (z : List ℕ) (a : Matrix) (s : List ℕ) → prod
 product_is m n z a s = shares-are m n z a.entries (behind m (cleared_to n) s) ∙ behind-twice m (added_all n (share z) a.entries) (cleared_to n) s
 
 -- ---- the first row that does not hold
-pub row_here : (n r : ℕ) (s : List ℕ) → 6 * n ≤ length s → r ≡ first_not (holds_at (elements (take (6 * n - 0) s)) n) n → r ≡ row_in n s
+pub row_here : (n r : ℕ) (s : List ℕ) → 6 * n ≤ length s → r ≡ first_not (holds_at (elements (take (6 * n) s)) n) n → r ≡ row_in n s
 unfolding row_in
-row_here n r s l e = let d : 6 * n - 0 ≡ 6 * n = omega arith in rw (le-leb (6 * n) (length s) l) (e ∙ rw d)
+row_here n r s l e = rw (le-leb (6 * n) (length s) l) e
 
 pub row-short : (n : ℕ) (s : List ℕ) → length s < 6 * n → n ≡ row_in n s
 unfolding row_in
@@ -78,30 +78,17 @@ pub failing-none : (r : Found) (k u n i : ℕ) (s : List ℕ) → i ≡ row_in n
 unfolding failing_in
 failing-none r k u n i s e l = rw (← e, le-ltb i n l)
 
--- ---- a login's three products, and what is found in them: the calls in a row
-pub login-ends : (r : Found) (k u : ℕ) (z : List ℕ) (t : System) (s s₁ s₂ s₃ s₄ : List ℕ) (f : Found) (d : ℕ) → let n = t.a.rows in d ≡ twice_of n
-    → s₁ ≡ product_behind 0 n z t.a s → s₂ ≡ product_behind n n z t.b s₁ → s₃ ≡ product_behind d n z t.c s₂
-    → (f ≡ failing_in r k u n s₃) × (s₄ ≡ s₃) → from f s₄ ≡ from (failing_in r k u n (three_in z t s)) (three_in z t s)
+-- ---- a login's three products: the calls in a row, from places that were cut where the entries end
+pub three-cut : (z : List ℕ) (t : SystemShape) (a : ℕ) (es : List Entry) (b c : ℕ) → b ≡ min (a + t.a.entries) (length es) → c ≡ min (b + t.b.entries) (length es)
+    → (ea eb ec : List Entry) → ea ≡ take t.a.entries (drop a es) → eb ≡ take t.b.entries (drop b es) → ec ≡ take t.c.entries (drop c es)
+    → (s s₁ s₂ s₃ : List ℕ) → let n = t.a.rows in s₁ ≡ fold_entries (share_added 0 n z) ea (behind 0 (cleared_to n) s)
+    → s₂ ≡ fold_entries (share_added n n z) eb (behind n (cleared_to n) s₁)
+    → s₃ ≡ fold_entries (share_added (twice_of n) n z) ec (behind (twice_of n) (cleared_to n) s₂) → s₃ ≡ three_in z (system_at t a es) s
 unfolding three_in
-login-ends r k u z t s s₁ s₂ s₃ s₄ f d ed e₁ e₂ e₃ e =
-    let n = t.a.rows in
-    let h : s₃ ≡ three_in z t s =
-    e₃ ∙ (ap (λ (i : ℕ). product_behind i n z t.c s₂) ed ∙ ap (product_behind (twice_of n) n z t.c) (e₂ ∙ ap (product_behind n n z t.b) e₁)) in
-    ap₂ from (e.0 ∙ ap (failing_in r k u n) h) (e.1 ∙ h)
-
--- the same from places that were cut where the entries end
-pub login-cut : (r : Found) (k u : ℕ) (z : List ℕ) (t : SystemShape) (a : ℕ) (es : List Entry) (h b c : ℕ) → h ≡ length es
-    → b ≡ min (a + t.a.entries) h → c ≡ min (b + t.b.entries) h → (s s₁ s₂ s₃ s₄ : List ℕ) (f : Found) (d : ℕ) → let n = t.a.rows in d ≡ twice_of n
-    → s₁ ≡ product_behind 0 n z (matrix_at t.a a es) s → s₂ ≡ product_behind n n z (matrix_at t.b b es) s₁
-    → s₃ ≡ product_behind d n z (matrix_at t.c c es) s₂ → (f ≡ failing_in r k u n s₃) × (s₄ ≡ s₃)
-    → from f s₄ ≡ from (failing_in r k u n (three_in z (system_at t a es) s)) (three_in z (system_at t a es) s)
-login-cut r k u z t a es h b c eh eb ec s s₁ s₂ s₃ s₄ f d ed e₁ e₂ e₃ e =
-    let n = t.a.rows in
-    let d₂ = same_drop b (a + t.a.entries) es (omega (arith, eh, eb)) in
-    let d₃ = same_drop c (a + t.a.entries + t.b.entries) es (omega (arith, eh, eb, ec)) in
-    let w : ℕ → List Entry → List ℕ → List ℕ = λ i l v. fold_entries (share_added i n z) l (behind i (cleared_to n) v) in
-    login-ends r k u z (system_at t a es) s s₁ s₂ s₃ s₄ f d ed e₁
-    (e₂ ∙ ap (λ (l : List Entry). w n (take t.b.entries l) s₁) d₂) (e₃ ∙ ap (λ (l : List Entry). w d (take t.c.entries l) s₂) d₃) e
+three-cut z t a es b c eb ec ea₁ eb₁ ec₁ pa pb pc s s₁ s₂ s₃ e₁ e₂ e₃ =
+    let d₂ = same_drop b (a + t.a.entries) es (omega (arith, eb)) in
+    let d₃ = same_drop c (a + t.a.entries + t.b.entries) es (omega (arith, eb, ec)) in
+    e₃ ∙ rw (pc, d₃, e₂, pb, d₂, e₁, pa)
 
 -- ---- a login, unless something was found before
 module _ (k : ℕ) (z : List ℕ) (t : System) (u : ℕ) where
@@ -114,23 +101,6 @@ module _ (k : ℕ) (z : List ℕ) (t : System) (u : ℕ) where
   unfolding login_done
   done_none p h = rw h
 
-  -- the two ways of a branch
-  pub unless-some : (r f : Found) (s s₁ : List ℕ) → eqb r.kind 0 ≡ true
-      → from f s₁ ≡ from (failing_in r k u t.a.rows (three_in z t s)) (three_in z t s) → from f s₁ ≡ login_done k z t u (from r s)
-  unfolding login_done
-  unless-some r f s s₁ h e = rw h e
-
-  pub unless-none : (r : Found) (s : List ℕ) → eqb r.kind 0 ≡ false → from r s ≡ login_done k z t u (from r s)
-  unfolding login_done
-  unless-none r s h = rw h
-
--- by the parts of the packed and of the public words that are the login's
-pub unless-cut : (k w : ℕ) (ws x : List ℕ) (t : System) (u : ℕ) (ls xs : List ℕ) → ls ≡ login_part w ws u → xs ≡ public_part w x u → (r f : Found) (s s₁ : List ℕ)
-    → eqb r.kind 0 ≡ true → (let v = three_in (z_of w ls (elements xs)) t s in from f s₁ ≡ from (failing_in r k u t.a.rows v) v)
-    → from f s₁ ≡ login_done k (login_z w ws x u) t u (from r s)
-unfolding login_z
-unless-cut k w ws x t u ls xs p g r f s s₁ h e = unless-some k (z_of w (login_part w ws u) (elements (public_part w x u))) t u r f s s₁ h (rw (p, g) at e)
-
 -- ---- one login more
 module _ (k w : ℕ) (ws x : List ℕ) (t : System) where
   pub system-start : (p : Judged) → p ≡ system_done k w ws x t 0 p
@@ -141,22 +111,73 @@ module _ (k w : ℕ) (ws x : List ℕ) (t : System) where
   unfolding system_done
   system-more u p v v₁ h e = rw add-one (e ∙ ap (login_done k (login_z w ws x u) t u) h)
 
--- ---- both systems: the calls in a row, the second from a place that was cut
-module _ (q w : ℕ) (ws x : List ℕ) (sh : Shapes) (es : List Entry) (h a : ℕ) (eh : h ≡ length es) (ea : a ≡ min (0 + entries_in sh.bin) h) where
-  abbrev sb : System
-  sb = system_at sh.bin 0 es
+-- ---- a loop over the logins that stops at the first one with a row that does not hold
+module _ (k w : ℕ) (ws x : List ℕ) (t : System) (p : Judged) where
+  abbrev after : ℕ → Judged
+  after u = system_done k w ws x t u p
 
-  abbrev sf : System
-  sf = system_at sh.fld (entries_in sh.bin) es
+  -- what was found stays
+  stays : (q u : ℕ) → u ≤ q → ((after u).found.kind ≡ 0 → ⊥) → after q ≡ after u
+  unfolding system_done
+  stays zero u h some = let e : u ≡ 0 = omega arith in rw e
+  stays (suc q) u h some = go (eqb u (suc q)) refl (λ l. stays q u l some)
+    where
+      go : (b : Bool) → eqb u (suc q) ≡ b → (u ≤ q → after q ≡ after u) → after (suc q) ≡ after u
+      go true e again = let d : u ≡ suc q = eqb-true u (suc q) e in rw d
+      go false e again =
+          let n = eqb-false u (suc q) e in
+          let y = again (omega arith) in
+          done-some k (login_z w ws x q) t q (after q) (rw y some) ∙ y
 
-  abbrev both : Found → List ℕ → Judged
-  both r s = system_done 2 w ws x sf q (system_done 1 w ws x sb q (from r s))
+  module _ (u : ℕ) (s v : List ℕ) (before : from nothing s ≡ after u) (made : v ≡ three_in (login_z w ws x u) t s) where
+    next : (f : Found) → f ≡ failing_in nothing k u t.a.rows v → from f v ≡ after (u + 1)
+    next f e =
+        system-more k w ws x t u p (from nothing s) (from f v) before
+        (ap₂ from (e ∙ ap (failing_in nothing k u t.a.rows) made) made ∙ sym (done_none k (login_z w ws x u) t u (from nothing s) refl))
 
-  pub judge-cut : (s s₁ s₂ s₃ : List ℕ) (r r₁ r₂ : Found) → from r₁ s₁ ≡ system_done 1 w ws x sb q (from r s)
-      → from r₂ s₂ ≡ system_done 2 w ws x (system_at sh.fld a es) q (from r₁ s₁) → s₃ ≡ cleared_to (3 * max sh.bin.a.rows sh.fld.a.rows) s₂
-      → (r₂ ≡ (both r s).found) × (s₃ ≡ cleared_to (3 * max sh.bin.a.rows sh.fld.a.rows) (both r s).left)
-  judge-cut s s₁ s₂ s₃ r r₁ r₂ e₁ e₂ e₃ =
-      let c : system_at sh.fld a es ≡ sf = system-cut sh.fld (entries_in sh.bin) a es (omega (arith, eh, ea)) in
-      let j : from r₂ s₂ ≡ both r s =
-      e₂ ∙ (ap (λ (t : System). system_done 2 w ws x t q (from r₁ s₁)) c ∙ ap (system_done 2 w ws x sf q) e₁) in
-      (ap (λ (p : Judged). p.found) j, e₃ ∙ ap (λ (p : Judged). cleared_to (3 * max sh.bin.a.rows sh.fld.a.rows) p.left) j)
+    pub turn-none : t.a.rows ≡ row_in t.a.rows v → from nothing v ≡ after (u + 1)
+    turn-none e = next nothing (failing-none nothing k u t.a.rows t.a.rows v e (omega arith))
+
+    pub turn-found : (i q : ℕ) → i ≡ row_in t.a.rows v → i < t.a.rows → 0 < k → u < q → from (record { kind = k; login = u; place = i }) v ≡ after q
+    turn-found i q e l some h =
+        let f = next (record { kind = k; login = u; place = i }) (failing-here nothing k u t.a.rows i v e l) in
+        f ∙ sym (stays q (u + 1) (omega arith) (rw (← f) (λ z. omega arith)))
+
+pub found-stays : (k w : ℕ) (ws x : List ℕ) (t : System) (p : Judged) (q : ℕ) → (p.found.kind ≡ 0 → ⊥) → p ≡ system_done k w ws x t q p
+found-stays k w ws x t p q some = system-start k w ws x t p ∙ sym (stays k w ws x t p q 0 (omega arith) (rw (← system-start k w ws x t p) some))
+
+-- ---- both systems
+module _ (R : Relation) (w : ℕ) (ws x s : List ℕ) where
+  -- what is answered, and the words that are left
+  abbrev Says : Verdict → Found → List ℕ → Type 0
+  Says v r l = (judged v ≡ answer_of 0 (both_done R w ws x r s).found) × (l ≡ (both_done R w ws x r s).left)
+
+  at-end : (v : Verdict) (r f : Found) (l : List ℕ) → judged v ≡ answer_of 0 f → from f l ≡ both_done R w ws x r s → Says v r l
+  at-end v r f l a e = (a ∙ ap (λ (d : Judged). answer_of 0 d.found) e, ap (λ (d : Judged). d.left) e)
+
+  pub judge-stray : (u y : ℕ) → Says (stray u y) (record { kind = 3; login = u; place = y }) s
+  unfolding answer_of
+  judge-stray u y =
+      let f : Found = record { kind = 3; login = u; place = y } in
+      let one = found-stays 1 w ws x R.bin (from f s) R.q (λ z. omega (arith, z)) in
+      let two = found-stays 2 w ws x R.fld (from f s) R.q (λ z. omega (arith, z)) in
+      at-end (stray u y) f f s refl (two ∙ ap (system_done 2 w ws x R.fld R.q) one)
+
+  module _ (s₁ : List ℕ) where
+    pub judge-bin : (u i : ℕ) → from (record { kind = 1; login = u; place = i }) s₁ ≡ system_done 1 w ws x R.bin R.q (from nothing s) → Says (bin u i) nothing s₁
+    unfolding answer_of
+    judge-bin u i e =
+        let f : Found = record { kind = 1; login = u; place = i } in
+        let two = found-stays 2 w ws x R.fld (from f s₁) R.q (λ z. omega (arith, z)) in
+        at-end (bin u i) nothing f s₁ refl (two ∙ ap (system_done 2 w ws x R.fld R.q) e)
+
+    module _ (e : from nothing s₁ ≡ system_done 1 w ws x R.bin R.q (from nothing s)) (t : System) (same : t ≡ R.fld) (s₂ : List ℕ) where
+      pub judge-fld : (u i : ℕ) → from (record { kind = 2; login = u; place = i }) s₂ ≡ system_done 2 w ws x t R.q (from nothing s₁) → Says (fld u i) nothing s₂
+      unfolding answer_of
+      judge-fld u i g =
+          let f : Found = record { kind = 2; login = u; place = i } in
+          at-end (fld u i) nothing f s₂ refl ((rw same at g) ∙ ap (system_done 2 w ws x R.fld R.q) e)
+
+      pub judge-good : from nothing s₂ ≡ system_done 2 w ws x t R.q (from nothing s₁) → Says good nothing s₂
+      unfolding answer_of
+      judge-good g = at-end good nothing nothing s₂ refl ((rw same at g) ∙ ap (system_done 2 w ws x R.fld R.q) e)

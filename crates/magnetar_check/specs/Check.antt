@@ -2,14 +2,16 @@
 -- Source: document 01, "Matrices and layout" (added: a plain row check), "The run" (scratch words) and "Who can be turned back";
 -- document 02, U3 (stray bits; 8 to 10 after 7 and before 15).
 -- Assumes nothing.
-use Rattle.std.specs.Prelude.{ℕ, ◌*◌, ◌/◌, max, List, ◌++◌, length, drop, replicate}
+use Rattle.std.specs.Prelude.{Result, Ok, Err, ℕ, ◌*◌, ◌/◌, max, List, ◌++◌, length, drop, replicate}
+use Rattle.magnetar_field.specs.declared.refusal.Refusal.{Refusal}
+use Rattle.magnetar_field.specs.Number.{number}
 use Rattle.magnetar_field.specs.Refusal.{unless_refused}
 use Rattle.magnetar_matrix.specs.Packed.{unpacked, public_of}
 use Rattle.magnetar_matrix.specs.RowCheck.{Verdict, row_verdict}
 use Rattle.magnetar_matrix.specs.RowCheck.Verdict.{good, stray, bin, fld}
-use Rattle.magnetar_layout.specs.Tests.{Tests, first_refusal, size_tests, packed_tests, packed_tests_of, public_tests, public_tests_of, layout_tests, room_test_of}
+use Rattle.magnetar_layout.specs.Tests.{Tests, first_refusal, size_tests, packed_tests, public_tests, layout_tests, room_test_of}
 use Rattle.magnetar_relation.specs.Rules.{Rules, relation_of}
-use Rattle.magnetar_relation.specs.RuleTests.{rule_tests, given}
+use Rattle.magnetar_relation.specs.RuleTests.{rule_tests}
 use Rattle.magnetar_check.specs.declared.check.RowCheck.{RowCheck}
 use Rattle.magnetar_check.specs.declared.check.RowCheck.TheVariants as found
 
@@ -18,22 +20,21 @@ pub data Outcome : Type 0 where
   judged : Verdict → Outcome
   refused : ℕ → Outcome
 
--- the outcome that a value of the code's enum is
-abbrev pub outcome : RowCheck → Outcome
-outcome found.Good = judged good
-outcome (found.Stray u y) = judged (stray u y)
-outcome (found.Bin u i) = judged (bin u i)
-outcome (found.Fld u i) = judged (fld u i)
-outcome (found.Refused n) = refused n
+-- the verdict that a value of the code's enum is
+abbrev pub verdict : RowCheck → Verdict
+verdict found.Good = good
+verdict (found.Stray u y) = stray u y
+verdict (found.Bin u i) = bin u i
+verdict (found.Fld u i) = fld u i
+
+-- the outcome that the code's answer is
+abbrev pub outcome : Result RowCheck Refusal → Outcome
+outcome (Ok r) = judged (verdict r)
+outcome (Err r) = refused (number r)
 
 -- 15: fewer words of scratch than three products of the larger of n and k rows have
 abbrev pub check_scratch_tests : (n k room : ℕ) → Tests
 check_scratch_tests n k room = room_test_of (6 * max n k) room
-
--- the refusals by numbers: z is the one that 4 to 7 gave, n and k are the rows, p, x and room how many words there are, ns the segments
-abbrev pub check_tests_by : (z m q n k p x : ℕ) → (ns : List ℕ) → (room : ℕ) → Tests
-check_tests_by z m q n k p x ns room =
-    size_tests m q ++ (packed_tests_of (m / 2) q p ++ (public_tests_of m q x ++ (given z ++ (layout_tests (m / 2) ns ++ check_scratch_tests n k room))))
 
 -- the words of three products of the larger row count
 abbrev pub check_scratch_of : Rules → ℕ
@@ -51,8 +52,8 @@ pub record Checked : Type 0 where
   pub answer : Outcome
   pub scratch : List ℕ
 
--- the same of the code's enum and the scratch at exit
-abbrev pub checked : RowCheck → List ℕ → Checked
+-- the same of the code's answer and the scratch at exit
+abbrev pub checked : Result RowCheck Refusal → List ℕ → Checked
 checked r s = record { answer = outcome r; scratch = s }
 
 -- the outcome: the verdict, and zeros in the place of the products

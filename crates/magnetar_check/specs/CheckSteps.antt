@@ -1,8 +1,7 @@
--- How the row check goes, call by call: what the loops over number slices and the walks over records leave alike. Only private contracts,
--- and those of the steps that both forms call, cite these definitions.
+-- How the row check goes, call by call. Only private contracts cite these definitions.
 -- Source: document 01, "Matrices and layout" (added: a plain row check), login by login.
 -- Assumes nothing.
-use Rattle.std.specs.Prelude.{ℕ, zero, suc, ◌*◌, min, max, cond, List, length, take, ◌==◌, nat_le, nat_lt}
+use Rattle.std.specs.Prelude.{Option, Some, None, ℕ, zero, suc, ◌*◌, min, max, cond, List, length, take, ◌==◌, nat_le, nat_lt}
 use Rattle.magnetar_field.specs.Words.{elements}
 use Rattle.magnetar_layout.specs.Tests.{most_rows}
 use Rattle.magnetar_matrix.specs.Matrix.{Matrix, System, Entry, share}
@@ -13,7 +12,7 @@ use Rattle.magnetar_relation.specs.Steps.{login_z, cleared_to, added_to, behind}
 use Rattle.magnetar_relation.specs.EntryWalks.{fold_entries}
 use Rattle.magnetar_relation.specs.Stray.{StrayAnswer}
 use Rattle.magnetar_relation.specs.Stray.StrayAnswer.{clear, bit, refused as unsearched}
-use Rattle.magnetar_check.specs.declared.check.Found.{Found}
+use Rattle.magnetar_check.specs.declared.check.Failing.{Failing}
 use Rattle.magnetar_check.specs.Check.{Outcome}
 use Rattle.magnetar_check.specs.Check.Outcome.{judged, refused}
 
@@ -38,6 +37,12 @@ three_in z t s =
 unfoldable pub row_in : ℕ → List ℕ → ℕ
 row_in n s = cond (nat_le (6 * n) (length s)) (first_not (holds_at (elements (take (6 * n) s)) n) n) n
 
+-- what was found first: 1 a row of bin that does not hold, 2 a row of fld, 3 a stray bit, 0 nothing; the login, and the row or column
+pub record Found : Type 0 where
+  pub kind : ℕ
+  pub login : ℕ
+  pub place : ℕ
+
 -- nothing was found
 abbrev pub nothing : Found
 nothing = record { kind = 0; login = 0; place = 0 }
@@ -51,6 +56,11 @@ stray_found (unsearched n) = nothing
 -- the first row of system k that does not hold for login u, or r
 unfoldable pub failing_in : Found → (k u n : ℕ) → List ℕ → Found
 failing_in r k u n s = cond (nat_lt (row_in n s) n) (record { kind = k; login = u; place = row_in n s }) r
+
+-- a row of system k that the code found, or none
+abbrev pub found_in : ℕ → Option Failing → Found
+found_in k None = nothing
+found_in k (Some f) = record { kind = k; login = f.login; place = f.row }
 
 -- ---- the walk over the logins
 -- what was found, and the words

@@ -1,6 +1,5 @@
-// The plain row check: the first stray bit, or the first row that does not hold, over number slices and over records.
+// The plain row check: the first stray bit, or the first row that does not hold.
 #![tactic(auto)]
 
 pub mod check;
-pub mod check_records;
 mod rows;

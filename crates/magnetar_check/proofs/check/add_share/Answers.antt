@@ -1,6 +1,8 @@
-use Rattle.magnetar_relation.specs.Steps.{login_z}
+use Rattle.magnetar_matrix.specs.Matrix.{share}
+use Rattle.magnetar_field.proofs.Product.{⊗-comm}
+use Rattle.magnetar_check.specs.CheckSteps.{share_added}
 use Rattle.magnetar_check.proofs.check.add_share.Goals as goal
 
 pub returns : goal.returns
-unfolding login_z
-returns c = rw (c.add_share_of.ensures, c.columns-mine.ensures, c.part-bits.ensures)
+unfolding share share_added
+returns c = rw (c.add_behind.ensures, c.scale.ensures, c.z_of-f.ensures, c.value.ensures, ⊗-comm)
