@@ -36,7 +36,8 @@ total-from : (c : ℕ) (p : List ℕ) (es : List Entry) (y : ℕ) → row_total 
 unfolding row_total sum_over
 total-from c p [] y = sym (⊗-zero c)
 total-from c p (e ∷ es) y =
-    rw (total-from c p es y) (one_from (eqb e.row y) c (share (eq_table_from c p) e) (share (eq_table p) e) (row_total (share (eq_table p)) es y) (share_from c p e))
+    rw (total-from c p es y)
+    (one_from (eqb e.row y) c (share (eq_table_from c p) e) (share (eq_table p) e) (row_total (share (eq_table p)) es y) (share_from c p e))
 
 column-is : (c m : ℕ) (p : List ℕ) (a : Matrix) (y : ℕ) → a.cols ≡ m → y < m → column_of c p a.entries y ≡ c ⊗ get_or (mle_table a (elements p)) y 0
 unfolding mle_table times times_at transpose

@@ -1,27 +1,34 @@
 -- How the combined table ends: what its steps leave is the table that the relation gives, and what the entry leaves.
 -- Assumes nothing.
-use Rattle.std.specs.Prelude.{◌≡◌, ℕ, zero, suc, ◌+◌, ◌-◌, ◌*◌, ◌/◌, ◌≤◌, min, max, Bool, true, false, cond, not, eqb, ltb, List, [], ◌∷◌, ◌++◌, length, take, drop, replicate}
-use mathlib.Core.Path.{refl, sym, ap, ap₂, ◌∙◌}
+use Rattle.std.specs.Prelude.{◌≡◌, ℕ, zero, suc, ◌+◌, ◌*◌, ◌/◌, ◌≤◌, min, max, false, not, eqb, List, [], ◌∷◌, ◌++◌, length, take, drop, replicate}
+use Rattle.std.specs.Prelude.{Result}
+use Rattle.std.specs.Result.{IsErrAnd}
+use mathlib.Core.Path.{refl, sym, ap, ◌∙◌}
 use native.Mathlib.Nat.{zero-add, suc-add}
 use native.Mathlib.Omega.{arith}
 use lib.ListN.{length-append, length-replicate}
 use lib.Seq.{take_at, drop_at, take_all}
-use borrow.Author.Tests.{eqb-true, eqb-false, ltb-true, ltb-false, lt-ltb, le-ltb, ne_eqb, not-false, le-leb}
+use borrow.Author.Tests.{eqb-true, ltb-false, ne_eqb, not-false, le-leb}
+use Rattle.magnetar_field.specs.declared.refusal.Refusal.{Refusal}
+use Rattle.magnetar_field.specs.Number.{number, number_of}
 use Rattle.magnetar_field.specs.Sizes.{log₂}
 use Rattle.magnetar_field.specs.Words.{elements, words, overlaid}
 use Rattle.magnetar_field.proofs.Elements.{overlaid-same, words-length}
 use Rattle.magnetar_field.proofs.Tabulation.{tabulate-length}
 use Rattle.magnetar_layout.specs.Tests.{Tests, first_refusal, column_tests, Sized}
 use Rattle.magnetar_layout.proofs.FirstRefusal.{first-refusal-clear}
+use Rattle.magnetar_field.proofs.Handed.{handed}
+use Rattle.magnetar_layout.proofs.Passing.{out as refused_by, out-front, late}
+use Rattle.magnetar_layout.proofs.Refused.{number-positive}
 use Rattle.magnetar_layout.proofs.SizeLaws.{not-bad}
 use Rattle.magnetar_r1cs.proofs.Points.{log-most}
 use Rattle.magnetar_matrix.specs.Batch.{Relation}
 use Rattle.magnetar_relation.specs.Rules.{Rules, relation_of, in_relation}
 use Rattle.magnetar_relation.specs.RuleTests.{rule_tests, rule_tests_by, shape_tests, number_tests, total}
 use Rattle.magnetar_relation.specs.Steps.{cleared_to}
-use Rattle.magnetar_relation.proofs.RuleLaws.{given-group}
 use Rattle.magnetar_matrix.specs.Combined.{combined_table}
-use Rattle.magnetar_batch.specs.Entries.{combo_rest, combo_tests_by, combo_refusal, combo_words, combo_scratch_of, combined, combo_outcome}
+use Rattle.magnetar_batch.specs.Entries.{combo_rest, combo_refusal, combo_words, combo_scratch_of, combined, combo_outcome}
+use Rattle.magnetar_batch.specs.Systems.{point_tests, table_scratch_tests}
 use Rattle.magnetar_batch.specs.TableSteps.{padded, point_in, table_made}
 use Rattle.magnetar_layout.proofs.FirstRefusal.{front-none, rest-none}
 use Rattle.magnetar_batch.proofs.TableWalk.{Row, table-made}
@@ -81,21 +88,7 @@ pub combo-length : (R : Rules) (al p r : List ℕ) → length (combo_words R al 
 unfolding combo_words combined_table
 combo-length R al p r = words-length _ ∙ ap (λ (i : ℕ). 2 * i) (tabulate-length _ R.m)
 
--- ---- the refusal by numbers
-pub half_over : (m k room : ℕ) → m ≤ room / 2 → ltb (room / 2 - m) k ≡ ltb room (2 * m + 2 * k)
-half_over m k room h = go (ltb (room / 2 - m) k) refl
-  where
-    go : (b : Bool) → ltb (room / 2 - m) k ≡ b → ltb (room / 2 - m) k ≡ ltb room (2 * m + 2 * k)
-    go true b = b ∙ sym (lt-ltb room (2 * m + 2 * k) (omega (arith, h, ltb-true (room / 2 - m) k b)))
-    go false b = b ∙ sym (le-ltb room (2 * m + 2 * k) (omega (arith, h, ltb-false (room / 2 - m) k b)))
-
-pub half-short : (m room : ℕ) → ltb (room / 2) m ≡ ltb room (2 * m)
-half-short m room = go (ltb (room / 2) m) refl
-  where
-    go : (b : Bool) → ltb (room / 2) m ≡ b → ltb (room / 2) m ≡ ltb room (2 * m)
-    go true b = b ∙ sym (lt-ltb room (2 * m) (omega (arith, ltb-true (room / 2) m b)))
-    go false b = b ∙ sym (le-ltb room (2 * m) (omega (arith, ltb-false (room / 2) m b)))
-
+-- ---- what is known where nothing is refused
 module _ (R : Rules) (al p r : List ℕ) (o w : ℕ) where
   abbrev nb : ℕ
   nb = R.shapes.bin.a.rows
@@ -105,11 +98,6 @@ module _ (R : Rules) (al p r : List ℕ) (o w : ℕ) where
 
   abbrev rest : Tests
   rest = combo_rest R.m nb nf (length al) (length p) (length r) o w
-
-  pub combo-by : (z y : ℕ) → z ≡ first_refusal 0 (rule_tests R) → y ≡ first_refusal 0 (combo_tests_by z R.m nb nf (length al) (length p) (length r) o w)
-      → y ≡ combo_refusal R al p r o w
-  unfolding combo_refusal
-  combo-by z y e f = f ∙ given-group (column_tests R.m) (rule_tests R) rest z e
 
   -- what is known where nothing is refused
   record ComboFits : Type 0 where
@@ -170,7 +158,8 @@ module _ (R : Rules) (al p r out s : List ℕ) (k : ℕ) (refusal : k ≡ combo_
       rw wa (table_is (relation_of R) f.bin f.fld al p r (padded 32 p) (padded 32 r) s f.alphas ep er f.first f.second f.enough) in
       let t : take (2 * m) made ≡ w = rw e (take_at w (replicate (2 * max n j) 0 ++ drop (combo_scratch_of R) s) (2 * m) l) in
       let eo : o₁ ≡ w ++ drop (2 * m) out = ends.0 ∙ rw t (laid w out (2 * m) l f.wide) in
-      let es : s₁ ≡ replicate (combo_scratch_of R) 0 ++ drop (combo_scratch_of R) s = ends.1 ∙ rw e (cleared-all m (max n j) w (drop (combo_scratch_of R) s) l) in
+      let es : s₁ ≡ replicate (combo_scratch_of R) 0 ++ drop (combo_scratch_of R) s =
+      ends.1 ∙ rw e (cleared-all m (max n j) w (drop (combo_scratch_of R) s) l) in
       rw (← refusal, z, eo, es)
 
   -- the same from the calls in a row
@@ -181,13 +170,47 @@ module _ (R : Rules) (al p r out s : List ℕ) (k : ℕ) (refusal : k ≡ combo_
       let f : s₁ ≡ made = e ∙ rw (ea, ep, er) in
       combo-done o₁ s₂ z (ends.0 ∙ ap (λ (t : List ℕ). overlaid (take (2 * R.m) t) out) f, ends.1 ∙ ap (cleared_to R.m) f)
 
-  -- by both ways
-  pub combo-ends : (n : ℕ) (o₁ s₁ : List ℕ)
-      → (n ≡ k) × (o₁ ≡ cond (eqb k 0) (overlaid (take (2 * R.m) made) out) out) × (s₁ ≡ cond (eqb k 0) (cleared_to R.m made) s)
-      → combined n o₁ s₁ ≡ combo_outcome R al p r out s
-  combo-ends n o₁ s₁ e = ap (λ (i : ℕ). combined i o₁ s₁) e.0 ∙ at (eqb k 0) refl e.1 e.2
-    where
-      at : (b : Bool) → eqb k 0 ≡ b → o₁ ≡ cond b (overlaid (take (2 * R.m) made) out) out → s₁ ≡ cond b (cleared_to R.m made) s
-          → combined k o₁ s₁ ≡ combo_outcome R al p r out s
-      at true h eo es = let z = eqb-true k 0 h in ap (λ (i : ℕ). combined i o₁ s₁) z ∙ combo-done o₁ s₁ z (eo, es)
-      at false h eo es = ap₂ (combined k) eo es ∙ combo-back (eqb-false k 0 h)
+-- ---- a call that is turned back
+module _ (R : Rules) (al p r out s : List ℕ) where
+  abbrev points : Tests
+  points = point_tests R.shapes.bin.a.rows R.shapes.fld.a.rows (length al) (length p) (length r)
+
+  abbrev space : Tests
+  space = table_scratch_tests R.m R.shapes.bin.a.rows R.shapes.fld.a.rows (length s) (length out)
+
+  module _ (a : Result Unit Refusal) (e : Refusal) (h : IsErrAnd a (λ y. y ≡ e)) where
+    abbrev Turned : Type 0
+    Turned = combined (number_of a) out s ≡ combo_outcome R al p r out s
+
+    back : number_of a ≡ combo_refusal R al p r (length out) (length s) → Turned
+    back f =
+        let k = number-positive e in
+        let q = handed a e h in
+        combo-back R al p r out s (number_of a) f (λ z. omega arith)
+
+    pub size-turned : number e ≡ first_refusal 0 (column_tests R.m) → Turned
+    unfolding combo_refusal
+    size-turned f = back (out-front (column_tests R.m) (rule_tests R ++ (points ++ space)) a e h f)
+
+    module _ (size : 0 ≡ first_refusal 0 (column_tests R.m)) where
+      pub rules-turned : number e ≡ first_refusal 0 (rule_tests R) → Turned
+      unfolding combo_refusal
+      rules-turned f = back (late (column_tests R.m) (rule_tests R ++ (points ++ space)) size (out-front (rule_tests R) (points ++ space) a e h f))
+
+      module _ (rules : 0 ≡ first_refusal 0 (rule_tests R)) where
+        pub points-turned : number e ≡ first_refusal 0 points → Turned
+        unfolding combo_refusal
+        points-turned f =
+            back (late (column_tests R.m) (rule_tests R ++ (points ++ space)) size
+            (late (rule_tests R) (points ++ space) rules (out-front points space a e h f)))
+
+        pub room-turned : 0 ≡ first_refusal 0 points → number e ≡ first_refusal 0 space → Turned
+        unfolding combo_refusal
+        room-turned k f =
+            back (late (column_tests R.m) (rule_tests R ++ (points ++ space)) size
+            (late (rule_tests R) (points ++ space) rules (late points space k (refused_by space [] a e h f))))
+
+  pub all-passed : 0 ≡ first_refusal 0 (column_tests R.m) → 0 ≡ first_refusal 0 (rule_tests R) → 0 ≡ first_refusal 0 points → 0 ≡ first_refusal 0 space
+      → 0 ≡ combo_refusal R al p r (length out) (length s)
+  unfolding combo_refusal
+  all-passed e f g h = late (column_tests R.m) (rule_tests R ++ (points ++ space)) e (late (rule_tests R) (points ++ space) f (late points space g h))

@@ -6,13 +6,12 @@ use native.Mathlib.Numerals.{add-one}
 use native.Mathlib.Omega.{arith}
 use borrow.Author.Tests.{eqb-true, eqb-false, ltb-true, ltb-false}
 use lib.ListN.{length-take, get_or-eq_default}
-use lib.Seq.{get_or-drop, get_or-take, take_all}
+use lib.Seq.{get_or-take, take_all}
 use Rattle.magnetar_field.specs.Gf128.{◌⊕◌, ◌⊗◌}
 use Rattle.magnetar_field.specs.Tabulate.{tabulate}
 use Rattle.magnetar_field.specs.Words.{elements}
 use Rattle.magnetar_field.proofs.Xor.{⊕-zero}
 use Rattle.magnetar_field.proofs.Product.{⊗-zero, zero-⊗, ⊗-one, ⊕-⊗}
-use Rattle.magnetar_field.proofs.Elements.{elements-length}
 use Rattle.magnetar_field.proofs.Tabulation.{tabulate-ext}
 use Rattle.magnetar_multilinear.specs.EqTable.{eq_at, eq_table}
 use Rattle.magnetar_multilinear.proofs.EqTables.{eq_table-get}
@@ -95,11 +94,8 @@ held_more x t e f =
     raised-ext (half_times x (e ⊕ f)) (λ y. half_times x e y ⊕ half_times x f y) t (λ y. ⊕-⊗ e f (get_or (1 ∷ x) y 0))
     ∙ sym (raised-twice (half_times x e) (half_times x f) t)
 
--- ---- all logins; fs are their elements, which stand behind the w columns
-module _ (w : ℕ) (x t₀ : List ℕ) where
-  abbrev fs : List ℕ
-  fs = drop w t₀
-
+-- ---- all logins; fs are their elements
+module _ (w : ℕ) (x fs t₀ : List ℕ) where
   -- what is there with e held back for login u is what the logins before it add
   pub Held : (u e : ℕ) → List ℕ → Type 0
   Held u e t = raised (half_times (elements (public_part w x u)) e) t ≡ raised (half_sum w x fs u) t₀
@@ -107,35 +103,6 @@ module _ (w : ℕ) (x t₀ : List ℕ) where
   pub held_start : (e : ℕ) → e ≡ 0 → Held 0 e t₀
   unfolding Held half_sum sum_below
   held_start e h = nothing-held (elements (public_part w x 0)) t₀ e h ∙ raised_is (half_sum w x fs 0) t₀ t₀ refl (λ y _. sym (⊕-zero (get_or t₀ y 0)))
-
-  half-past : 1 ≤ w → (u e y : ℕ) → w ≤ y → half_times (elements (public_part w x u)) e y ≡ 0
-  unfolding half_times public_part
-  half-past o u e zero h = absurd (omega arith)
-  half-past o u e (suc y) h =
-      let p = take (public_words w) (drop (u * public_words w) x) in
-      let l : length (elements p) ≤ y = rw (elements-length p, length-take (public_words w) (drop (u * public_words w) x)) (omega arith) in
-      rw (get_or-eq_default (elements p) 0 {n = y} l) (⊗-zero e)
-
-  sum_past : 1 ≤ w → (u y : ℕ) → w ≤ y → half_sum w x fs u y ≡ 0
-  unfolding half_sum sum_below
-  sum_past o zero y h = refl
-  sum_past o (suc u) y h = rw (sum_past o u y h, half-past o u (get_or fs u 0) y h) (⊕-zero 0)
-
-  -- the login's element is still there
-  pub element-kept : 1 ≤ w → (u e : ℕ) (t : List ℕ) → length t ≡ length t₀ → Held u e t → get_or t (w + u) 0 ≡ get_or fs u 0
-  unfolding Held
-  element-kept o u e t l h = go (ltb (w + u) (length t₀)) refl ∙ sym (get_or-drop w t₀ u 0)
-    where
-      go : (b : Bool) → ltb (w + u) (length t₀) ≡ b → get_or t (w + u) 0 ≡ get_or t₀ (w + u) 0
-      go true b =
-          let k : w + u < length t₀ = ltb-true (w + u) (length t₀) b in
-          let f = half_times (elements (public_part w x u)) e in
-          let m : get_or (raised f t) (w + u) 0 ≡ get_or t (w + u) 0 = raised-get f t (w + u) (rw l k) ∙ rw (half-past o u e (w + u) (omega arith)) (⊕-zero _) in
-          let n : get_or (raised (half_sum w x fs u) t₀) (w + u) 0 ≡ get_or t₀ (w + u) 0 = raised-get (half_sum w x fs u) t₀ (w + u) k ∙ rw (sum_past o u (w + u) (omega arith)) (⊕-zero _) in
-          sym m ∙ ap (λ (s : List ℕ). get_or s (w + u) 0) h ∙ n
-      go false b =
-          let k : length t₀ ≤ w + u = ltb-false (w + u) (length t₀) b in
-          rw (get_or-eq_default t 0 {n = w + u} (omega arith), get_or-eq_default t₀ 0 {n = w + u} k)
 
   -- one login more: its words in front of those from login u on, the next one's behind them
   pub held_next : (k u e f r : ℕ) (t t' : List ℕ) → k ≡ public_words w → f ≡ e ⊕ get_or fs u 0 → Held u e t
@@ -145,7 +112,8 @@ module _ (w : ℕ) (x t₀ : List ℕ) where
   unfolding Held half_sum sum_below
   held_next k u e f r t t' g h i j =
       let p = elements (public_part w x u) in
-      let a : raised (half_times p f) t ≡ raised (half_times p (get_or fs u 0)) (raised (half_sum w x fs u) t₀) = rw h (held_more p t e (get_or fs u 0) ∙ rw i) in
+      let a : raised (half_times p f) t ≡ raised (half_times p (get_or fs u 0)) (raised (half_sum w x fs u) t₀) =
+      rw h (held_more p t e (get_or fs u 0) ∙ rw i) in
       rw (add-one) (rw (mine-is w x k u g, next-is w x k u g) at j ∙ a ∙ raised-twice (half_sum w x fs u) (half_times p (get_or fs u 0)) t₀)
 
   pub held-end : (u q e : ℕ) (t : List ℕ) → u ≡ q → e ≡ 0 → Held u e t → t ≡ raised (half_sum w x fs q) t₀
@@ -157,5 +125,6 @@ pub halves_are : (q w : ℕ) (x p : List ℕ) → q ≡ 2 ^ length p → tabulat
 unfolding public_folded public_folded_at half_sum half_times
 halves_are q w x p e =
     tabulate-ext (half_sum w x (eq_table p) q) (public_folded_at q (public_of q w x) p) w
-    (λ y g. sum-ext q (λ u. half_times (elements (public_part w x u)) (get_or (eq_table p) u 0) y) (λ u. eq_at p u ⊗ get_or (public_half (public_of q w x) u) y 0)
+    (λ y g. sum-ext q (λ u. half_times (elements (public_part w x u)) (get_or (eq_table p) u 0) y)
+    (λ u. eq_at p u ⊗ get_or (public_half (public_of q w x) u) y 0)
     (λ u h. rw (eq_table-get p u (rw e at h), ← public-of q w x u h)))

@@ -6,7 +6,6 @@ pub mod ValueWalk
 pub mod ColumnLaws
 pub mod ComboEnds
 pub mod ValueEnds
-pub mod ComboWalk
-pub mod ValueOver
 pub mod Halves
+pub mod Chains
 pub mod MarkedRows

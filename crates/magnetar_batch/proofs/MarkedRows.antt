@@ -22,8 +22,8 @@ use Rattle.magnetar_batch.specs.Entries.{fold_refusal}
 use Rattle.magnetar_batch.specs.MarkedRows.{table, MarkedRows}
 
 pub marked : MarkedRows
-unfolding table ◌⊕◌ ◌⊗◌ times_x sum_times log₂ halvings tabulate elements words eq_table eq_table_from eq_at eq_factor eq_refusal every login_words next_multiple
-    offsets_from end_from offsets layout_end is_length or_refuse is_size build_refusal sum_below blocks sum_over row_total share times_at times transpose
-    mle_table bit_valued entries_of matrix_of assignment bit_of folded_at folded packed_bit login_part public_part unpacked public_of packed_table packed_refusal table_refusal
-    fold_refusal batch_products
+unfolding table ◌⊕◌ ◌⊗◌ times_x sum_times log₂ halvings tabulate elements words eq_table eq_table_from eq_at eq_factor eq_refusal every login_words
+    next_multiple offsets_from end_from offsets layout_end is_length or_refuse is_size build_refusal sum_below blocks sum_over row_total share
+    times_at times transpose mle_table bit_valued entries_of matrix_of assignment bit_of folded_at folded packed_bit login_part public_part unpacked
+    public_of packed_table packed_refusal table_refusal fold_refusal batch_products
 marked = refl

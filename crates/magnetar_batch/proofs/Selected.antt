@@ -48,7 +48,8 @@ same_bit left base e b y l h = go (leb base y) refl
 lowest-bit : (left base e b : ℕ) (a : ℕ) → Lowest left b → a ⊕ e ⊕ select_at (bit_and left (left - 1)) base e (base + b) ≡ a ⊕ select_at left base e (base + b)
 lowest-bit left base e b a l =
     let d : base + b - base ≡ b = omega arith in
-    let x : select_at (bit_and left (left - 1)) base e (base + b) ≡ 0 = select_in (bit_and left (left - 1)) base e (base + b) (omega arith) ∙ rw (d, l.here) (zero-mul e) in
+    let x : select_at (bit_and left (left - 1)) base e (base + b) ≡ 0 =
+    select_in (bit_and left (left - 1)) base e (base + b) (omega arith) ∙ rw (d, l.here) (zero-mul e) in
     let y : select_at left base e (base + b) ≡ e = select_in left base e (base + b) (omega arith) ∙ rw (d, l.set) (one-mul e) in
     rw (x, y) (⊕-zero (a ⊕ e))
 
@@ -172,7 +173,11 @@ module _ (ws : List ℕ) (w e k : ℕ) (fit : get_or ws k 0 < 2 ^ 64) where
           → up_to ws w e (64 * k) y ⊕ select_at (word_select (get_or ws k 0) (w - 64 * k)) (64 * k) e y ≡ up_to ws w e (64 * k + 64) y
       go true a b t =
           let h : y < 64 * k = ltb-true y (64 * k) a in
-          rw (up_to-in ws w e (64 * k) y h, up_to-in ws w e (64 * k + 64) y (omega arith), select-before (word_select (get_or ws k 0) (w - 64 * k)) (64 * k) e y h)
+          rw (
+            up_to-in ws w e (64 * k) y h,
+            up_to-in ws w e (64 * k + 64) y (omega arith),
+            select-before (word_select (get_or ws k 0) (w - 64 * k)) (64 * k) e y h,
+          )
           (⊕-zero (row_select ws w e y))
       go false a true t =
           let h : 64 * k ≤ y = ltb-false y (64 * k) a in
@@ -188,10 +193,11 @@ columns-start ws w e t =
     raised_is (up_to ws w e 0) t t refl (λ y h. sym (rw (up_to-out ws w e 0 y (omega arith)) (⊕-zero (get_or t y 0))))
 
 pub columns-more : (ws : List ℕ) (w e k : ℕ) (t₀ t t' : List ℕ) → get_or ws k 0 < 2 ^ 64 → 64 * k < w → t ≡ raised (up_to ws w e (64 * k)) t₀
-    → t' ≡ raised (select_at (word_select (get_or ws k 0) (w - 64 * k)) (64 * k) e) t → t' ≡ raised (up_to ws w e (64 * k + 64)) t₀
+    → t' ≡ raised (select_at (word_select (get_or ws k 0) (w - 64 * k)) (64 * k) e) t → t' ≡ raised (up_to ws w e (64 * (k + 1))) t₀
 columns-more ws w e k t₀ t t' fit lt a b =
-    b ∙ (rw a (raised-twice (up_to ws w e (64 * k)) (select_at (word_select (get_or ws k 0) (w - 64 * k)) (64 * k) e) t₀)
-    ∙ raised-ext _ (up_to ws w e (64 * k + 64)) t₀ (λ y. one_word ws w e k fit y lt))
+    let d : 64 * (k + 1) ≡ 64 * k + 64 = omega arith in
+    rw d (b ∙ (rw a (raised-twice (up_to ws w e (64 * k)) (select_at (word_select (get_or ws k 0) (w - 64 * k)) (64 * k) e) t₀)
+    ∙ raised-ext _ (up_to ws w e (64 * k + 64)) t₀ (λ y. one_word ws w e k fit y lt)))
 
 -- all columns below w are among them
 pub columns-end : (ws : List ℕ) (w e base : ℕ) (t₀ t : List ℕ) → (w ≤ base) ⊎ (64 * length ws ≤ base) → t ≡ raised (up_to ws w e base) t₀

@@ -202,24 +202,25 @@ table-made R al p r s wp wr h =
 
 -- ---- the calls in a row
 -- three matrices, from places that were cut where the entries es end
-pub system-added : (m : ℕ) (al : List ℕ) (k : ℕ) (p : List ℕ) (t : SystemShape) (a : ℕ) (es : List Entry) (h b c : ℕ) → h ≡ length es
-    → b ≡ min (a + t.a.entries) h → c ≡ min (b + t.b.entries) h → (s s₁ s₂ s₃ : List ℕ)
+pub system-added : (m : ℕ) (al : List ℕ) (k : ℕ) (p : List ℕ) (t : SystemShape) (a : ℕ) (es : List Entry) (b c : ℕ)
+    → b ≡ min (a + t.a.entries) (length es) → c ≡ min (b + t.b.entries) (length es) → (s s₁ s₂ s₃ : List ℕ)
     → s₁ ≡ matrix_added m t.a.rows al k p (matrix_at t.a a es) s → s₂ ≡ matrix_added m t.a.rows al (k + 1) p (matrix_at t.b b es) s₁
     → s₃ ≡ matrix_added m t.a.rows al (k + 2) p (matrix_at t.c c es) s₂ → s₃ ≡ system_added m al k p (system_at t a es) s
-system-added m al k p t a es h b c eh eb ec s s₁ s₂ s₃ e₁ e₂ e₃ =
-    let d₂ = same_drop b (a + t.a.entries) es (omega (arith, eh, eb)) in
-    let d₃ = same_drop c (a + t.a.entries + t.b.entries) es (omega (arith, eh, eb, ec)) in
+system-added m al k p t a es b c eb ec s s₁ s₂ s₃ e₁ e₂ e₃ =
+    let d₂ = same_drop b (a + t.a.entries) es (omega (arith, eb)) in
+    let d₃ = same_drop c (a + t.a.entries + t.b.entries) es (omega (arith, eb, ec)) in
     rw (e₃, e₂, e₁, d₃, d₂)
 
 -- both systems
-pub both-added : (m : ℕ) (sh : Shapes) (es : List Entry) (al p r : List ℕ) (h a : ℕ) → h ≡ length es → a ≡ min (0 + entries_in sh.bin) h
+pub both-added : (m : ℕ) (sh : Shapes) (es : List Entry) (al p r : List ℕ) (a : ℕ) → a ≡ min (entries_in sh.bin) (length es)
     → (s s₁ s₂ s₃ s₄ : List ℕ) → s₁ ≡ cleared_to m s → s₂ ≡ system_added m al 0 p (system_at sh.bin 0 es) s₁
     → s₃ ≡ system_added m al 3 r (system_at sh.fld a es) s₂ → s₄ ≡ cleared_behind m (max sh.bin.a.rows sh.fld.a.rows) s₃
     → s₄ ≡ cleared_behind m (max sh.bin.a.rows sh.fld.a.rows)
     (system_added m al 3 r (system_at sh.fld (entries_in sh.bin) es) (system_added m al 0 p (system_at sh.bin 0 es) (cleared_to m s)))
-both-added m sh es al p r h a eh ea s s₁ s₂ s₃ s₄ e₁ e₂ e₃ e₄ =
+both-added m sh es al p r a ea s s₁ s₂ s₃ s₄ e₁ e₂ e₃ e₄ =
     let j = max sh.bin.a.rows sh.fld.a.rows in
     let f = system_at sh.fld (entries_in sh.bin) es in
     let b = system_at sh.bin 0 es in
-    let c : system_at sh.fld a es ≡ f = system-cut sh.fld (entries_in sh.bin) a es (omega (arith, eh, ea)) in
-    e₄ ∙ ap (cleared_behind m j) (e₃ ∙ (ap (λ (t : System). system_added m al 3 r t s₂) c ∙ ap (system_added m al 3 r f) (e₂ ∙ ap (system_added m al 0 p b) e₁)))
+    let c : system_at sh.fld a es ≡ f = system-cut sh.fld (entries_in sh.bin) a es ea in
+    e₄ ∙ ap (cleared_behind m j) (e₃ ∙ (ap (λ (t : System). system_added m al 3 r t s₂) c
+    ∙ ap (system_added m al 3 r f) (e₂ ∙ ap (system_added m al 0 p b) e₁)))

@@ -1,14 +1,20 @@
 -- How the combined table's value at a column point ends: what the steps leave is the value that the relation gives, and what the entry leaves.
 -- Assumes nothing.
-use Rattle.std.specs.Prelude.{◌≡◌, ℕ, zero, suc, ◌+◌, ◌*◌, ◌/◌, ◌^◌, ◌≤◌, min, Bool, true, false, cond, not, eqb, List, [], ◌∷◌, ◌++◌, map, length, take, drop, replicate}
+use Rattle.std.specs.Prelude.{◌≡◌, ℕ, ◌+◌, ◌*◌, ◌/◌, ◌^◌, ◌≤◌, min, true, false, not, eqb, List, [], ◌∷◌, ◌++◌, map, length, take, drop, replicate}
+use Rattle.std.specs.Prelude.{Result, Ok}
+use Rattle.std.specs.Result.{IsErrAnd}
+use Rattle.std.proofs.lemmas.Result.{err_from_is_err_and}
 use mathlib.Core.Path.{refl, sym, ap, ◌∙◌}
 use mathlib.Core.List.{append_assoc}
 use native.Mathlib.Omega.{arith}
 use lib.ListN.{length-append, length-take, length-drop, length-replicate}
 use lib.Pow.{pow_mono}
 use lib.Seq.{drop_at, drop-drop, take-append-le, drop-append-le, get_or-take, length-take-le}
-use borrow.Author.Tests.{le-leb, eq-eqb, eqb-true, eqb-false, ne_eqb, ltb-false, not-false}
-use Rattle.magnetar_field.specs.Gf128.{◌⊕◌}
+use borrow.Author.Tests.{le-leb, eq-eqb, eqb-true, ne_eqb, ltb-false, not-false}
+use Rattle.magnetar_field.specs.declared.gf128.Gf128.{Gf128}
+use Rattle.magnetar_field.specs.declared.refusal.Refusal.{Refusal}
+use Rattle.magnetar_field.specs.Gf128.{◌⊕◌, value}
+use Rattle.magnetar_field.specs.Number.{number, number_of}
 use Rattle.magnetar_field.specs.Sizes.{log₂}
 use Rattle.magnetar_field.specs.Tabulate.{tabulate}
 use Rattle.magnetar_field.specs.Words.{elements, words}
@@ -21,7 +27,10 @@ use Rattle.magnetar_multilinear.specs.Multilinear.{mle}
 use Rattle.magnetar_multilinear.proofs.EqTables.{eq_table-length, from_one}
 use Rattle.magnetar_multilinear.proofs.Refusals.{eq-none}
 use Rattle.magnetar_layout.specs.Tests.{Tests, is_size, Sized, first_refusal, column_tests, room_test_of}
-use Rattle.magnetar_layout.proofs.FirstRefusal.{first-refusal-clear, first-refusal-kept, front-none, rest-none}
+use Rattle.magnetar_layout.proofs.FirstRefusal.{first-refusal-clear, front-none, rest-none}
+use Rattle.magnetar_field.proofs.Handed.{handed}
+use Rattle.magnetar_layout.proofs.Passing.{out, out-front, late}
+use Rattle.magnetar_layout.proofs.Refused.{number-positive}
 use Rattle.magnetar_layout.proofs.SizeLaws.{not-bad}
 use Rattle.magnetar_r1cs.proofs.Points.{log-most}
 use Rattle.magnetar_matrix.specs.Matrix.{Entry, Matrix, System, row_total, share, swapped, times_at, times}
@@ -29,14 +38,13 @@ use Rattle.magnetar_matrix.specs.Batch.{Relation}
 use Rattle.magnetar_matrix.specs.Combined.{combined_table, value_by_rows, combined_by_rows}
 use Rattle.magnetar_matrix.proofs.ByRows.{SystemSpans, combined-by-rows}
 use Rattle.magnetar_matrix.proofs.TableLaws.{raised-zeros}
-use Rattle.magnetar_relation.specs.Rules.{Rules, relation_of, rules_over}
-use Rattle.magnetar_relation.specs.RuleTests.{rule_tests_by, shape_tests, number_tests, total, given}
+use Rattle.magnetar_relation.specs.Rules.{Rules, relation_of}
+use Rattle.magnetar_relation.specs.RuleTests.{rule_tests_by, shape_tests, number_tests, total}
 use Rattle.magnetar_relation.specs.Steps.{behind, cleared_to}
 use Rattle.magnetar_relation.specs.EntryWalks.{fold_entries}
-use Rattle.magnetar_relation.proofs.RuleLaws.{given-group}
 use Rattle.magnetar_batch.specs.Entries.{combo_scratch_of}
 use Rattle.magnetar_batch.specs.TableSteps.{eq_behind, point_in}
-use Rattle.magnetar_batch.specs.Value.{value_refusal, value_tests_by, combo_value, value_outcome}
+use Rattle.magnetar_batch.specs.Value.{value_refusal, combo_value, valued, value_outcome}
 use Rattle.magnetar_batch.specs.ValueSteps.{front_value, front_cleared, row_added, rows_made, matrix_value, matrix_left, weighed, system_value, system_left, larger_rows, factors_behind, six_value, six_left}
 use Rattle.magnetar_batch.proofs.ColumnLaws.{dot-six}
 use Rattle.magnetar_batch.proofs.Rooms.{elements-behind}
@@ -114,7 +122,12 @@ module _ (k m : ℕ) (e r : List ℕ) (le : length e ≡ m) where
           let b = drop (2 * n) (words t) in
           record {
             front = replicate (2 * n) 0 ++ b;
-            is = rw (rows_made_lem es s g, size-told n z, le-leb (2 * n) (length (words t ++ x)) room, drop-append-le (2 * n) (words t) x (omega (arith, long, few)))
+            is = rw (
+              rows_made_lem es s g,
+              size-told n z,
+              le-leb (2 * n) (length (words t ++ x)) room,
+              drop-append-le (2 * n) (words t) x (omega (arith, long, few)),
+            )
                 (sym (append_assoc (replicate (2 * n) 0) b x));
             long = rw (length-append, length-drop, length-replicate) (omega (arith, long, few));
           }
@@ -242,7 +255,8 @@ module _ (R : Relation) (ws : Sides R.m R.bin) (wt : Sides R.m R.fld) (size : Si
         by_rows f.a.rows f.b v y wt.rows_b,
         by_rows f.a.rows f.c v y wt.rows_c,
       )
-      (six-sum _ _ _ _ _ _ ∙ (sym (dot-six (elements al) _ _ _ _ _ _ h) ∙ sym (combined-by-rows R.m b f (elements al) u v y (spans R.m b p y ws few) (spans R.m f r y wt few))))
+      (six-sum _ _ _ _ _ _ ∙ (sym (dot-six (elements al) _ _ _ _ _ _ h)
+      ∙ sym (combined-by-rows R.m b f (elements al) u v y (spans R.m b p y ws few) (spans R.m f r y wt few))))
 
   pub six-left : six_left R c s ≡ replicate (2 * R.m + 2 * K) 0 ++ drop (2 * R.m + 2 * K) s
   unfolding six_left cleared_to
@@ -256,27 +270,8 @@ module _ (R : Relation) (ws : Sides R.m R.bin) (wt : Sides R.m R.fld) (size : Si
       let d : 2 * K + 2 * R.m ≡ 2 * R.m + 2 * K = omega arith in
       rw (e, n, le-leb (2 * R.m + 2 * K) (length (f ++ rest)) b, drop_at f rest (2 * R.m + 2 * K) l, d)
 
--- ---- tests after an earlier number
-given-group-from : (a : ℕ) (f l k : Tests) (y : ℕ) → y ≡ first_refusal 0 l → first_refusal a (f ++ (given y ++ k)) ≡ first_refusal a (f ++ (l ++ k))
-given-group-from zero f l k y e = given-group f l k y e
-given-group-from (suc a) f l k y e =
-    let h : suc a ≡ 0 → ⊥ = λ i. omega (arith, i) in
-    first-refusal-kept (suc a) (f ++ (given y ++ k)) h ∙ sym (first-refusal-kept (suc a) (f ++ (l ++ k)) h)
-
-from-none : (a : ℕ) (l : Tests) → first_refusal a l ≡ 0 → first_refusal 0 l ≡ 0
-from-none zero l e = e
-from-none (suc a) l e = let h : suc a ≡ 0 → ⊥ = λ i. omega (arith, i) in absurd (h (sym (first-refusal-kept (suc a) l h) ∙ e))
-
--- ---- the entry: an earlier number z, the rules R as they are lent, n words of scratch
-module _ (z : ℕ) (R : Rules) (n : ℕ) where
-  abbrev shapes : Tests
-  shapes = rule_tests_by R.m R.q R.shapes R.numbers true
-
-  pub value-by : (y k : ℕ) → y ≡ first_refusal 0 shapes
-      → k ≡ first_refusal z (value_tests_by y R.m R.shapes.bin.a.rows R.shapes.fld.a.rows n) → k ≡ value_refusal z R n
-  unfolding value_refusal
-  value-by y k e f = f ∙ given-group-from z (column_tests R.m) shapes (room_test_of (combo_scratch_of R) n) y e
-
+-- ---- the entry: the rules R as they are lent, n words of scratch
+module _ (R : Rules) (n : ℕ) where
   -- what is known where nothing is refused
   record ValueFits : Type 0 where
     size : Sized 2 65536 R.m
@@ -284,14 +279,13 @@ module _ (z : ℕ) (R : Rules) (n : ℕ) where
     fld : Sides R.m (relation_of R).fld
     enough : combo_scratch_of R ≤ n
 
-  value-fits : value_refusal z R n ≡ 0 → ValueFits
+  value-fits : value_refusal 0 R n ≡ 0 → ValueFits
   unfolding value_refusal rule_tests_by
-  value-fits e₀ =
+  value-fits e =
       let m = R.m in
       let last = room_test_of (combo_scratch_of R) n in
       let first = shape_tests m R.q R.shapes in
       let more = number_tests (total R.shapes) R.numbers ++ ((7, not true) ∷ []) in
-      let e = from-none z (column_tests m ++ ((first ++ more) ++ last)) e₀ in
       let late : first_refusal 0 ((first ++ more) ++ last) ≡ 0 = rest-none (column_tests m) ((first ++ more) ++ last) e in
       let k = (first-refusal-clear 0 (column_tests m) refl (front-none (column_tests m) ((first ++ more) ++ last) e)).1 in
       let c = (first-refusal-clear 0 first refl (front-none first more (front-none (first ++ more) last late))).1 in
@@ -322,36 +316,56 @@ module _ (z : ℕ) (R : Rules) (n : ℕ) where
       same : (a b : ℕ) → not (eqb a b) ≡ false → a ≡ b
       same a b e = eqb-true a b (not-false (eqb a b) e)
 
-module _ (z : ℕ) (R : Rules) (al p r c s : List ℕ) (k : ℕ) (refusal : k ≡ value_refusal z R (length s)) (six : length al ≡ 12) (whole : length c ≡ 32) where
+module _ (R : Rules) (al p r c s : List ℕ) where
+  abbrev rules : Tests
+  rules = rule_tests_by R.m R.q R.shapes R.numbers true
+
+  abbrev room_for : Tests
+  room_for = room_test_of (combo_scratch_of R) (length s)
+
+  -- a call that is turned back
+  module _ (a : Result Gf128 Refusal) (e : Refusal) (h : IsErrAnd a (λ y. y ≡ e)) where
+    abbrev Turned : Type 0
+    Turned = valued a s ≡ value_outcome 0 R al p r c s
+
+    back : number_of a ≡ value_refusal 0 R (length s) → Turned
+    unfolding value_outcome
+    back f =
+        let x = err_from_is_err_and a h in
+        let k : number e ≡ value_refusal 0 R (length s) = sym (handed a e h) ∙ f in
+        let n : number e ≡ 0 → ⊥ = λ z. let q = number-positive e in omega arith in
+        rw (x.1, x.2, ← k, ne_eqb (number e) 0 n)
+
+    pub size-turned : number e ≡ first_refusal 0 (column_tests R.m) → Turned
+    unfolding value_refusal
+    size-turned f = back (out-front (column_tests R.m) (rules ++ room_for) a e h f)
+
+    pub rules-turned : 0 ≡ first_refusal 0 (column_tests R.m) → number e ≡ first_refusal 0 rules → Turned
+    unfolding value_refusal
+    rules-turned size f = back (late (column_tests R.m) (rules ++ room_for) size (out-front rules room_for a e h f))
+
+    pub room-turned : 0 ≡ first_refusal 0 (column_tests R.m) → 0 ≡ first_refusal 0 rules → number e ≡ first_refusal 0 room_for → Turned
+    unfolding value_refusal
+    room-turned size passed f = back (late (column_tests R.m) (rules ++ room_for) size (late rules room_for passed (out room_for [] a e h f)))
+
+  pub all-passed : 0 ≡ first_refusal 0 (column_tests R.m) → 0 ≡ first_refusal 0 rules → 0 ≡ first_refusal 0 room_for
+      → 0 ≡ value_refusal 0 R (length s)
+  unfolding value_refusal
+  all-passed e f g = late (column_tests R.m) (rules ++ room_for) e (late rules room_for f g)
+
   -- the relation for one login
   abbrev one : Relation
-  one = relation_of (rules_over R.m 1 [] R.shapes R.entries)
+  one = relation_of (record { m = R.m; q = 1; lengths = []; shapes = R.shapes; numbers = R.numbers; entries = R.entries })
 
-  -- what the function returns and leaves is its outcome
-  abbrev Left : (n v : ℕ) → List ℕ → Type 0
-  Left n v s₁ = record { code = n; value = v; scratch = s₁ } ≡ value_outcome z R al p r c s
-
-  pub value-back : (k ≡ 0 → ⊥) → Left k 0 s
-  unfolding value_outcome
-  value-back h = rw (← refusal, ne_eqb k 0 h)
-
-  pub value-done : (v : ℕ) (s₁ : List ℕ) → k ≡ 0 → (v ≡ six_value one al p r c s) × (s₁ ≡ six_left one c s) → Left 0 v s₁
+  pub value-done : length al ≡ 12 → length c ≡ 32 → 0 ≡ value_refusal 0 R (length s) → (v : Gf128) (s₁ : List ℕ)
+      → (value v ≡ six_value one al p r c s) × (s₁ ≡ six_left one c s) → valued (Ok v) s₁ ≡ value_outcome 0 R al p r c s
   unfolding value_outcome combo_value
-  value-done v s₁ h e =
-      let f = value-fits z R (length s) (sym refusal ∙ h) in
+  value-done six whole k v s₁ e =
+      let f = value-fits R (length s) (sym k) in
       rw (
-        ← refusal,
-        h,
+        ← k,
         e.0,
         six-value one f.bin f.fld f.size al p r c s six whole f.enough,
         e.1,
         six-left one f.bin f.fld f.size al p r c s six whole f.enough,
       )
-
-  -- by both ways
-  pub value-ends : (v : ℕ) (s₁ : List ℕ) → (v ≡ cond (eqb k 0) (six_value one al p r c s) 0) × (s₁ ≡ cond (eqb k 0) (six_left one c s) s) → Left k v s₁
-  value-ends v s₁ e = at (eqb k 0) refl e.0 e.1
-    where
-      at : (b : Bool) → eqb k 0 ≡ b → v ≡ cond b (six_value one al p r c s) 0 → s₁ ≡ cond b (six_left one c s) s → Left k v s₁
-      at true h ev es = let z = eqb-true k 0 h in ap (λ (i : ℕ). record { code = i; value = v; scratch = s₁ }) z ∙ value-done v s₁ z (ev, es)
-      at false h ev es = rw (ev, es) (value-back (eqb-false k 0 h))

@@ -1,7 +1,7 @@
 -- How the combined table's value at a column point is made, step by step: a table in front taken at a point, the rows of a matrix, and that
 -- six matrices leave the value that is combined row by row.
 -- Assumes nothing.
-use Rattle.std.specs.Prelude.{◌≡◌, ℕ, zero, suc, ◌+◌, ◌-◌, ◌*◌, ◌/◌, ◌%◌, ◌^◌, ◌<◌, ◌≤◌, min, max, Bool, true, false, ltb, List, [], ◌∷◌, ◌++◌, map, length, get_or, take, drop, replicate}
+use Rattle.std.specs.Prelude.{◌≡◌, ℕ, zero, suc, ◌+◌, ◌-◌, ◌*◌, ◌/◌, ◌%◌, ◌^◌, ◌<◌, ◌≤◌, min, max, true, false, List, [], ◌∷◌, ◌++◌, map, length, get_or, take, drop, replicate}
 use mathlib.Core.Path.{refl, sym, ap, ap₂, ◌∙◌, subst}
 use mathlib.Core.List.{append_assoc}
 use native.Mathlib.Nat.{mod-eq_of_lt, two-pow-succ}
@@ -10,7 +10,7 @@ use native.Mathlib.Omega.{arith}
 use lib.ListN.{take-append-drop}
 use lib.Pow.{pow_mono}
 use lib.Seq.{length-take-le, drop-append-le}
-use borrow.Author.Tests.{ltb-true, ltb-false, le-leb, lt-leb}
+use borrow.Author.Tests.{le-leb, lt-leb}
 use Rattle.magnetar_field.specs.Sizes.{log₂}
 use Rattle.magnetar_field.specs.Words.{elements, words}
 use Rattle.magnetar_field.proofs.Elements.{elements-drop}
@@ -24,26 +24,16 @@ use Rattle.magnetar_layout.specs.Tests.{is_size}
 use Rattle.magnetar_layout.proofs.SizeLaws.{sized}
 use Rattle.magnetar_r1cs.proofs.Points.{log-most}
 use Rattle.magnetar_matrix.specs.Matrix.{Entry, swapped}
-use Rattle.magnetar_matrix.specs.Lent.{entries_of}
-use Rattle.magnetar_matrix.proofs.Walked.{entries-swapped}
 use Rattle.magnetar_relation.specs.declared.shapes.SystemShape.{SystemShape}
 use Rattle.magnetar_relation.specs.declared.shapes.Shapes.{Shapes}
-use Rattle.magnetar_relation.specs.Rules.{matrix_at, entries_in, system_at, relation_of, rules_over}
+use Rattle.magnetar_relation.specs.Rules.{matrix_at, entries_in, system_at, relation_of}
 use Rattle.magnetar_relation.specs.Steps.{cleared_to, column_added}
 use Rattle.magnetar_relation.specs.EntryWalks.{fold_entries}
 use Rattle.magnetar_relation.proofs.RangeLaws.{same_drop, system-cut}
-use Rattle.magnetar_relation.proofs.StepLaws.{cleared-none}
 use Rattle.magnetar_relation.proofs.TableWords.{cleared-words}
 use Rattle.magnetar_batch.specs.TableSteps.{eq_behind, point_in}
 use Rattle.magnetar_batch.specs.ValueSteps.{front_value, front_cleared, row_added, rows_made, matrix_value, matrix_left, weighed, system_value, system_left, six_value, six_left}
 use Rattle.magnetar_batch.proofs.Rooms.{elements-take, elements-behind}
-
--- ---- two parts in front
-pub both-over : (k m : ℕ) (s : List ℕ) (b : Bool) → b ≡ ltb (length s) (2 * k + 2 * m) → b ≡ true → s ≡ cleared_to (k + m) s
-both-over k m s b e t = cleared-none (k + m) s (omega (arith, ltb-true (length s) (2 * k + 2 * m) (sym e ∙ t)))
-
-pub both-fit : (k m : ℕ) (s : List ℕ) (b : Bool) → b ≡ ltb (length s) (2 * k + 2 * m) → b ≡ false → 2 * k + 2 * m ≤ length s
-both-fit k m s b e t = ltb-false (length s) (2 * k + 2 * m) (sym e ∙ t)
 
 -- ---- the highest variable bound
 pub small_power : (j : ℕ) → j ≤ 15 → 2 ^ j ≤ 32768
@@ -89,12 +79,12 @@ lower-room (suc k) n l p h e = rw sub-one (omega (arith, e, two-pow-succ k, pow_
 -- ---- a table in front, at a point
 module _ (n : ℕ) (p s : List ℕ) where
   pub front-some : (l v : ℕ) (u : List ℕ) → is_size 1 65536 n ≡ true → n ≤ length s / 2 → l ≡ log₂ n
-      → v ≡ mle (elements (take (2 * n) s)) (elements (take (2 * l - 0) p)) → u ≡ replicate (length (take (2 * n) s)) 0
+      → v ≡ mle (elements (take (2 * n) s)) (elements (take (2 * l) p)) → u ≡ replicate (length (take (2 * n) s)) 0
       → (v ≡ front_value n p s) × (u ++ drop (2 * n) s ≡ front_cleared n s)
   unfolding front_value front_cleared
   front-some l v u z h e f g =
       let w = sized 1 65536 n z in
-      let k : 2 * l - 0 ≡ min (2 * log₂ n) 32 = omega (arith, e, log-most n w.high w.power) in
+      let k : 2 * l ≡ min (2 * log₂ n) 32 = omega (arith, e, log-most n w.high w.power) in
       let b = le-leb (2 * n) (length s) (omega arith) in
       (rw (z, b) (f ∙ rw (k, elements-take n s)), rw (z, b) (cleared-words n s u (omega arith) g))
 
@@ -107,57 +97,42 @@ module _ (n : ℕ) (p s : List ℕ) where
   front-none z = (rw z, rw z)
 
 -- ---- the rows of a matrix
-take-map : (n : ℕ) (es : List Entry) → take n (map swapped es) ≡ map swapped (take n es)
-take-map zero es = refl
-take-map (suc n) [] = refl
-take-map (suc n) (e ∷ es) = ap (λ (l : List Entry). swapped e ∷ l) (take-map n es)
-
-drop-map : (n : ℕ) (es : List Entry) → drop n (map swapped es) ≡ map swapped (drop n es)
-drop-map zero es = refl
-drop-map (suc n) [] = refl
-drop-map (suc n) (e ∷ es) = drop-map n es
-
 pub rows-fold : (k m : ℕ) (es : List Entry) (t : List ℕ) → fold_entries (column_added k m) (map swapped es) t ≡ fold_entries (row_added k m) es t
 unfolding fold_entries
 rows-fold k m [] t = refl
 rows-fold k m (e ∷ es) t = rows-fold k m es (row_added k m e t)
 
--- over number slices: those of the columns with the rows' and the columns' places exchanged
-rows_cut : (k m : ℕ) (r c l h : List ℕ) (a e : ℕ) (t : List ℕ)
-    → fold_entries (column_added k m) (take e (drop a (entries_of c r l h))) t ≡ fold_entries (row_added k m) (take e (drop a (entries_of r c l h))) t
-rows_cut k m r c l h a e t =
-    let es = entries_of r c l h in
-    rw (entries-swapped r c l h, drop-map a es, take-map e (drop a es)) (rows-fold k m (take e (drop a es)) t)
-
-pub matrix-ends : (k m n : ℕ) (p r c l h : List ℕ) (a e : ℕ) (s s₁ s₂ s₃ : List ℕ) (v : ℕ) → s₁ ≡ cleared_to k s
-    → s₂ ≡ fold_entries (column_added k m) (take e (drop a (entries_of c r l h))) s₁ → (v ≡ front_value n p s₂) × (s₃ ≡ front_cleared n s₂)
-    → let es = take e (drop a (entries_of r c l h)) in (v ≡ matrix_value k m n p es s) × (s₃ ≡ matrix_left k m n es s)
+-- the columns of the entries with row and column exchanged
+pub matrix-ends : (k m n : ℕ) (p : List ℕ) (es : List Entry) (s s₁ s₂ s₃ : List ℕ) (v : ℕ) → s₁ ≡ cleared_to k s
+    → s₂ ≡ fold_entries (column_added k m) (map swapped es) s₁ → (v ≡ front_value n p s₂) × (s₃ ≡ front_cleared n s₂)
+    → (v ≡ matrix_value k m n p es s) × (s₃ ≡ matrix_left k m n es s)
 unfolding matrix_value matrix_left
-matrix-ends k m n p r c l h a e s s₁ s₂ s₃ v e₁ e₂ f =
-    let es = take e (drop a (entries_of r c l h)) in
-    let d : s₂ ≡ rows_made k m es s = e₂ ∙ (rows_cut k m r c l h a e s₁ ∙ ap (fold_entries (row_added k m) es) e₁) in
+matrix-ends k m n p es s s₁ s₂ s₃ v e₁ e₂ f =
+    let d : s₂ ≡ rows_made k m es s = e₂ ∙ (rows-fold k m es s₁ ∙ ap (fold_entries (row_added k m) es) e₁) in
     (f.0 ∙ ap (front_value n p) d, f.1 ∙ ap (front_cleared n) d)
 
 -- ---- three, from places that were cut where the entries es end
-pub system-ends : (k m : ℕ) (al : List ℕ) (j : ℕ) (p : List ℕ) (t : SystemShape) (a : ℕ) (es : List Entry) (h b c : ℕ) → h ≡ length es
-    → b ≡ min (a + t.a.entries) h → c ≡ min (b + t.b.entries) h → (s s₁ s₂ s₃ : List ℕ) (x y z v : ℕ)
+pub system-ends : (k m : ℕ) (al : List ℕ) (j : ℕ) (p : List ℕ) (t : SystemShape) (a : ℕ) (es : List Entry) (b c : ℕ)
+    → b ≡ min (a + t.a.entries) (length es) → c ≡ min (b + t.b.entries) (length es) → (s s₁ s₂ s₃ : List ℕ) (x y z v : ℕ)
     → (let n = t.a.rows in (x ≡ matrix_value k m n p (matrix_at t.a a es).entries s) × (s₁ ≡ matrix_left k m n (matrix_at t.a a es).entries s))
     → (let n = t.a.rows in (y ≡ matrix_value k m n p (matrix_at t.b b es).entries s₁) × (s₂ ≡ matrix_left k m n (matrix_at t.b b es).entries s₁))
     → (let n = t.a.rows in (z ≡ matrix_value k m n p (matrix_at t.c c es).entries s₂) × (s₃ ≡ matrix_left k m n (matrix_at t.c c es).entries s₂))
     → v ≡ weighed al (min j 3) x y z → (v ≡ system_value k m al j p (system_at t a es) s) × (s₃ ≡ system_left k m (system_at t a es) s)
 unfolding system_value system_left
-system-ends k m al j p t a es h b c eh eb ec s s₁ s₂ s₃ x y z v e₁ e₂ e₃ e =
-    let d₂ = same_drop b (a + t.a.entries) es (omega (arith, eh, eb)) in
-    let d₃ = same_drop c (a + t.a.entries + t.b.entries) es (omega (arith, eh, eb, ec)) in
+system-ends k m al j p t a es b c eb ec s s₁ s₂ s₃ x y z v e₁ e₂ e₃ e =
+    let d₂ = same_drop b (a + t.a.entries) es (omega (arith, eb)) in
+    let d₃ = same_drop c (a + t.a.entries + t.b.entries) es (omega (arith, eb, ec)) in
     (rw (e, e₁.0, e₂.0, e₃.0, e₂.1, e₁.1, d₃, d₂), rw (e₃.1, e₂.1, e₁.1, d₃, d₂))
 
 -- ---- all six
-pub six-ends : (m : ℕ) (sh : Shapes) (es : List Entry) (al p r c : List ℕ) (h a k : ℕ) → h ≡ length es → a ≡ min (0 + entries_in sh.bin) h
+pub six-ends : (m : ℕ) (sh : Shapes) (ns : List ℕ) (es : List Entry) (al p r c : List ℕ) (a k : ℕ) → a ≡ min (entries_in sh.bin) (length es)
     → k ≡ max sh.bin.a.rows sh.fld.a.rows → (s s₁ s₂ s₃ s₄ : List ℕ) (x y v : ℕ) → s₁ ≡ eq_behind k 1 (point_in m c) s
     → (x ≡ system_value k m al 0 p (system_at sh.bin 0 es) s₁) × (s₂ ≡ system_left k m (system_at sh.bin 0 es) s₁)
     → (y ≡ system_value k m al 3 r (system_at sh.fld a es) s₂) × (s₃ ≡ system_left k m (system_at sh.fld a es) s₂)
-    → s₄ ≡ cleared_to (k + m) s₃ → v ≡ x ⊕ y → let R = relation_of (rules_over m 1 [] sh es) in (v ≡ six_value R al p r c s) × (s₄ ≡ six_left R c s)
+    → s₄ ≡ cleared_to (k + m) s₃ → v ≡ x ⊕ y
+    → let R = relation_of (record { m = m; q = 1; lengths = []; shapes = sh; numbers = ns; entries = es }) in
+    (v ≡ six_value R al p r c s) × (s₄ ≡ six_left R c s)
 unfolding six_value six_left
-six-ends m sh es al p r c h a k eh ea ek s s₁ s₂ s₃ s₄ x y v e₁ e₂ e₃ e₄ e =
-    let d : system_at sh.fld a es ≡ system_at sh.fld (entries_in sh.bin) es = system-cut sh.fld (entries_in sh.bin) a es (omega (arith, eh, ea)) in
+six-ends m sh ns es al p r c a k ea ek s s₁ s₂ s₃ s₄ x y v e₁ e₂ e₃ e₄ e =
+    let d : system_at sh.fld a es ≡ system_at sh.fld (entries_in sh.bin) es = system-cut sh.fld (entries_in sh.bin) a es ea in
     (rw (e, e₂.0, e₃.0, e₂.1, d, e₁, ek), rw (e₄, e₃.1, e₂.1, d, e₁, ek))

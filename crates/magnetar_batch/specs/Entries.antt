@@ -11,7 +11,7 @@ use Rattle.magnetar_matrix.specs.Combined.{combined_table}
 use Rattle.magnetar_matrix.specs.Packed.{unpacked, public_of}
 use Rattle.magnetar_layout.specs.Tests.{Tests, first_refusal, column_tests, size_tests, packed_tests, public_tests, length_test, room_test}
 use Rattle.magnetar_relation.specs.Rules.{Rules, relation_of}
-use Rattle.magnetar_relation.specs.RuleTests.{rule_tests, given}
+use Rattle.magnetar_relation.specs.RuleTests.{rule_tests}
 use Rattle.magnetar_batch.specs.Systems.{point_tests, table_scratch_words, table_scratch_tests}
 
 -- ---- `fold_packed_w`: the packed words ws of q logins with w columns, the point p, the output out, the scratch
@@ -64,10 +64,6 @@ unfoldable pub combo_refusal : Rules → (al p r : List ℕ) → (out scratch : 
 combo_refusal R al p r out scratch =
     first_refusal 0 (column_tests R.m ++ (rule_tests R
     ++ combo_rest R.m R.shapes.bin.a.rows R.shapes.fld.a.rows (length al) (length p) (length r) out scratch))
-
--- the same by numbers, z being the one that 4 to 7 gave
-abbrev pub combo_tests_by : (z m n k al p r out scratch : ℕ) → Tests
-combo_tests_by z m n k al p r out scratch = column_tests m ++ (given z ++ combo_rest m n k al p r out scratch)
 
 -- the words of the combined table
 unfoldable pub combo_words : Rules → (al p r : List ℕ) → List ℕ

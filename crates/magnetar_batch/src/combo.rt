@@ -1,63 +1,49 @@
 // The six matrices of both systems combined into one table of columns.
-ghost use Rattle.std.specs.Prelude.{◌≡◌, ◌≤◌, [], take, drop, slice_index};
+ghost use Rattle.std.specs.Prelude.{◌≡◌, ◌≤◌, [], slice_index};
+ghost use Rattle.magnetar_field.specs.Number.{number_of};
 ghost use Rattle.magnetar_field.specs.Words.{elements};
-ghost use Rattle.magnetar_matrix.specs.Lent.{entries_of};
-ghost use Rattle.magnetar_relation.specs.Rules.{rules, relation_of, system_at};
+ghost use Rattle.magnetar_matrix.specs.Numbers.{entries_by};
+ghost use Rattle.magnetar_relation.specs.Rules.{rules_by, relation_of, system_at};
 ghost use Rattle.magnetar_relation.specs.Steps.{column_added};
 ghost use Rattle.magnetar_relation.specs.EntryWalks.{fold_entries};
 ghost use Rattle.magnetar_batch.specs.Entries.{combined, combo_outcome};
 ghost use Rattle.magnetar_batch.specs.TableSteps.{eq_behind, point_in, system_added, table_made};
 
 use crate::table;
-use magnetar_r1cs::r1cs;
+use magnetar_field::refusal::{Refusal, require};
+use magnetar_layout::limits::MOST_COLUMNS;
+use magnetar_layout::tests;
+use magnetar_matrix::entries::Entries;
 use magnetar_relation::shapes::{Shapes, SystemShape};
 use magnetar_relation::{range, rules, step};
 
-// Adds the columns of the k entries from place a on, by the n factors behind the table of m elements.
-pub(crate) fn add_columns(
-    m: usize,
-    n: usize,
-    s: &mut [u64],
-    row: &[usize],
-    col: &[usize],
-    lo: &[u64],
-    hi: &[u64],
-    a: usize,
-    k: usize,
-)
-    ensures { s.new ≡ fold_entries (column_added m n) (take k (drop a (entries_of row.now col.now lo.now hi.now))) s.old }
+// Adds the columns of the entries, by the n factors behind the table of m elements.
+pub(crate) fn add_columns<E: Entries>(m: usize, n: usize, s: &mut [u64], es: &E)
+    ensures { s.new ≡ fold_entries (column_added m n) (entries_by (E.numbers es.now)) s.old }
 {
-    let e = range::after(a, k, r1cs::entries_held(row, col, lo, hi));
-    let mut i = a;
-    while i < e {
-        table::add_column(m, n, s, row[i], col[i], lo[i], hi[i]);
-        i += 1;
+    for i in 0..es.len() {
+        table::add_column(m, n, s, es.at(i));
     }
 }
 
-// Adds a matrix, whose e entries start at place a, times alpha k at the row point p for n rows.
-fn add_matrix(
+// Adds the matrix of these entries times alpha k at the row point p for n rows.
+fn add_matrix<E: Entries>(
     s: &mut [u64],
     m: usize,
     n: usize,
     al: [u64; 12],
     k: usize,
     p: [u64; 32],
-    row: &[usize],
-    col: &[usize],
-    lo: &[u64],
-    hi: &[u64],
-    a: usize,
-    e: usize,
+    es: &E,
 )
-    ensures { s.new ≡ fold_entries (column_added m n) (take e (drop a (entries_of row.now col.now lo.now hi.now))) (eq_behind m (slice_index (elements al) k) (point_in n p) s.old) }
+    ensures { s.new ≡ fold_entries (column_added m n) (entries_by (E.numbers es.now)) (eq_behind m (slice_index (elements al) k) (point_in n p) s.old) }
 {
     table::eq_behind(s, m, n, al, k, p);
-    add_columns(m, n, s, row, col, lo, hi, a, e);
+    add_columns(m, n, s, es);
 }
 
 // Adds the three matrices of a system, whose entries start at place a, the first one times alpha k.
-fn add_system(
+fn add_system<E: Entries>(
     s: &mut [u64],
     m: usize,
     t: SystemShape,
@@ -65,84 +51,64 @@ fn add_system(
     al: [u64; 12],
     k: usize,
     p: [u64; 32],
-    row: &[usize],
-    col: &[usize],
-    lo: &[u64],
-    hi: &[u64],
+    es: &E,
 )
     requires { k ≤ 3 }
-    ensures { s.new ≡ system_added m al k p (system_at t a (entries_of row.now col.now lo.now hi.now)) s.old }
+    ensures { s.new ≡ system_added m al k p (system_at t a (entries_by (E.numbers es.now))) s.old }
 {
     let n = t.a.rows;
-    let h = r1cs::entries_held(row, col, lo, hi);
-    let b = range::after(a, t.a.entries, h);
-    let c = range::after(b, t.b.entries, h);
-    add_matrix(s, m, n, al, k, p, row, col, lo, hi, a, t.a.entries);
-    add_matrix(s, m, n, al, k + 1, p, row, col, lo, hi, b, t.b.entries);
-    add_matrix(s, m, n, al, k + 2, p, row, col, lo, hi, c, t.c.entries);
+    let a = range::part(es, a, t.a.entries);
+    let b = range::part(es, a.to, t.b.entries);
+    let c = range::part(es, b.to, t.c.entries);
+    add_matrix(s, m, n, al, k, p, &a);
+    add_matrix(s, m, n, al, k + 1, p, &b);
+    add_matrix(s, m, n, al, k + 2, p, &c);
 }
 
 // The combined table in the first m elements, and 0 in as many behind it as the larger row count; the alphas and the row points as arrays.
-pub fn combine(
+pub fn combine<E: Entries>(
     s: &mut [u64],
     m: usize,
     sh: Shapes,
     al: [u64; 12],
     pb: [u64; 32],
     pf: [u64; 32],
-    row: &[usize],
-    col: &[usize],
-    lo: &[u64],
-    hi: &[u64],
+    es: &E,
 )
-    ensures { s.new ≡ table_made (relation_of (rules m 1 [] sh row.now col.now lo.now hi.now)) al pb pf s.old }
+    ensures { s.new ≡ table_made (relation_of (rules_by m 1 [] sh (E.numbers es.now))) al pb pf s.old }
 {
-    let b = sh.bin;
-    let f = sh.fld;
-    let a = range::ends_of(sh, r1cs::entries_held(row, col, lo, hi)).binc;
+    let ends = range::ends_of(sh, es.len());
     step::clear_front(m, s);
-    add_system(s, m, b, 0, al, 0, pb, row, col, lo, hi);
-    add_system(s, m, f, a, al, 3, pf, row, col, lo, hi);
-    table::clear_behind(s, m, b.a.rows, f.a.rows);
+    add_system(s, m, sh.bin, 0, al, 0, pb, es);
+    add_system(s, m, sh.fld, ends[2], al, 3, pf, es);
+    table::clear_behind(s, m, sh.bin.a.rows, sh.fld.a.rows);
 }
 
 // The combined table in the first 2m words of out, its other words stay; the 2m + 2R words of scratch, R being the larger row count, are 0
 // at exit. 1, 4 to 7; 11: not twelve words of alphas, or a point that is not of its rows' length; 15: too little room.
-pub fn build_m_combo(
+pub fn build_m_combo<E: Entries>(
     out: &mut [u64],
     scratch: &mut [u64],
     m: usize,
     sh: Shapes,
-    row: &[usize],
-    col: &[usize],
-    lo: &[u64],
-    hi: &[u64],
+    es: &E,
     alphas: &[u64],
     pb: &[u64],
     pf: &[u64],
-) -> u32
-    ensures { combined result out.new scratch.new ≡ combo_outcome (rules m 1 [] sh row.now col.now lo.now hi.now) alphas.now pb.now pf.now out.old scratch.old }
+) -> Result<(), Refusal>
+    ensures { combined (number_of result) out.new scratch.new
+        ≡ combo_outcome (rules_by m 1 [] sh (E.numbers es.now)) alphas.now pb.now pf.now out.old scratch.old }
 {
-    let b = sh.bin;
-    let f = sh.fld;
-    let n = table::refusal(
-        rules::refused(m, 1, sh, row, col, lo, hi),
-        m,
-        b.a.rows,
-        f.a.rows,
-        alphas.len(),
-        pb.len(),
-        pf.len(),
-        out.len(),
-        scratch.len(),
-    );
-    if n != 0 {
-        return n;
-    }
-    let al = table::alphas12(alphas);
-    let p = table::point32(pb);
-    let r = table::point32(pf);
-    combine(scratch, m, sh, al, p, r, row, col, lo, hi);
+    require(tests::is_size(2, MOST_COLUMNS, m), Refusal::Size)?;
+    rules::check(m, 1, sh, es)?;
+    let n = sh.bin.a.rows;
+    let k = sh.fld.a.rows;
+    table::points_fit(n, k, alphas.len(), pb.len(), pf.len())?;
+    table::room_fits(m, n, k, scratch.len(), out.len())?;
+    let al = table::padded(alphas);
+    let p = table::padded(pb);
+    let r = table::padded(pf);
+    combine(scratch, m, sh, al, p, r, es);
     table::move_table(m, scratch, out);
-    0
+    Ok(())
 }

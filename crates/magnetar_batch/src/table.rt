@@ -1,17 +1,19 @@
-// What the combined table is made of, over number slices and over records alike: the eq table behind it, its room cleared, its arguments as
-// arrays, and its refusals by numbers. Each is total: it leaves words that are too few as they are.
+// What the combined table is made of: the eq table behind it, its room cleared, its arguments as arrays, and its refusals by numbers. Each is
+// total: it leaves words that are too few as they are.
 ghost use Rattle.std.specs.Prelude.{◌≡◌, ◌+◌, ◌*◌, max, take, nat_lt, slice_index};
 ghost use Rattle.magnetar_field.specs.Gf128.{value};
+ghost use Rattle.magnetar_field.specs.Number.{number_of};
 ghost use Rattle.magnetar_field.specs.Words.{elements, overlaid};
 ghost use Rattle.magnetar_layout.specs.Tests.{first_refusal};
-ghost use Rattle.magnetar_matrix.specs.Lent.{entry};
+ghost use Rattle.magnetar_matrix.specs.Numbers.{entry_of};
 ghost use Rattle.magnetar_relation.specs.Steps.{cleared_to, column_added};
-ghost use Rattle.magnetar_batch.specs.Entries.{combo_tests_by};
+ghost use Rattle.magnetar_batch.specs.Systems.{point_tests, table_scratch_tests};
 ghost use Rattle.magnetar_batch.specs.TableSteps.{eq_behind, cleared_behind, padded, point_in};
 
 use magnetar_field::gf128::Gf128;
+use magnetar_field::refusal::{Refusal, require};
 use magnetar_field::{sizes, words};
-use magnetar_layout::tests;
+use magnetar_matrix::entries::Entry;
 use magnetar_matrix::step as element;
 use magnetar_multilinear::eq::EqBits;
 use magnetar_relation::step;
@@ -20,10 +22,9 @@ use magnetar_relation::step;
 pub(crate) fn eq_from(s: &mut [u64], m: usize, n: usize, c: Gf128, p: [u64; 32])
     ensures { s.new ≡ eq_behind m (value c) (point_in n p) s.old }
 {
-    let l = sizes::least(2 * sizes::log2(n), 32);
+    let l = (2 * sizes::log2(n)).min(32);
     if m <= s.len() / 2 {
-        let a = 2 * m;
-        let _done = EqBits::build(&p[0..l], c, &mut s[a..]);
+        let _done = EqBits::build(&p[0..l], c, &mut s[2 * m..]);
     }
 }
 
@@ -36,52 +37,36 @@ pub(crate) fn eq_behind(s: &mut [u64], m: usize, n: usize, al: [u64; 12], k: usi
 }
 
 // Adds an entry's value times the element at its row, of the n behind the first m, to the element at its column.
-pub(crate) fn add_column(
-    m: usize,
-    n: usize,
-    s: &mut [u64],
-    row: usize,
-    col: usize,
-    lo: u64,
-    hi: u64,
-)
-    ensures { s.new ≡ column_added m n (entry row col lo hi) s.old }
+pub(crate) fn add_column(m: usize, n: usize, s: &mut [u64], e: Entry)
+    ensures { s.new ≡ column_added m n (entry_of e) s.old }
 {
-    let v = Gf128 { lo: lo, hi: hi };
-    let f = step::get_between(m, n, s, row);
-    step::add_to(m, col, element::scale(v, f), s);
+    let f = step::get_between(m, n, s, e.row);
+    step::add_to(m, e.col, element::scale(e.value(), f), s);
+}
+
+// m elements and k elements do not fit in so many words.
+pub(crate) fn is_over(m: usize, k: usize, room: usize) -> bool
+    ensures { result ≡ nat_lt room (2 * m + 2 * k) }
+{
+    m.saturating_add(k) > room / 2
 }
 
 // Clears as many elements behind the first m as the larger row count.
 pub(crate) fn clear_behind(s: &mut [u64], m: usize, nb: usize, nf: usize)
     ensures { s.new ≡ cleared_behind m (max nb nf) s.old }
 {
-    let k = sizes::larger(nb, nf);
-    let h = s.len() / 2;
-    if m <= h {
-        if k <= h - m {
-            let a = 2 * m;
-            let e = a + 2 * k;
-            words::clear(&mut s[a..e]);
-        }
+    let k = nb.max(nf);
+    if !is_over(m, k, s.len()) {
+        words::clear(&mut s[2 * m..2 * m + 2 * k]);
     }
 }
 
-// The alphas, as an array.
-pub(crate) fn alphas12(al: &[u64]) -> [u64; 12]
-    ensures { result ≡ padded 12 al.now }
+// The words, as many as there is room for, and 0 behind them.
+pub(crate) fn padded<const N: usize>(ws: &[u64]) -> [u64; N]
+    ensures { result ≡ padded N ws.now }
 {
-    let mut a = [0u64; 12];
-    words::copy(al, &mut a);
-    a
-}
-
-// A row point, as an array.
-pub(crate) fn point32(p: &[u64]) -> [u64; 32]
-    ensures { result ≡ padded 32 p.now }
-{
-    let mut a = [0u64; 32];
-    words::copy(p, &mut a);
+    let mut a = [0u64; N];
+    words::copy(ws, &mut a);
     a
 }
 
@@ -98,36 +83,27 @@ pub(crate) fn move_table(m: usize, s: &mut [u64], out: &mut [u64])
     }
 }
 
-// m elements and k elements do not fit in so many words.
-pub(crate) fn is_over(m: usize, k: usize, room: usize) -> bool
-    ensures { result ≡ nat_lt room (2 * m + 2 * k) }
+// 11: words of the alphas, and of the points for n and k rows.
+#[tactic(auto, using(magnetar_layout::proofs::Passing::passing), unfolding(magnetar_layout::specs::Tests::or_refuse))]
+pub(crate) fn points_fit(n: usize, k: usize, al: usize, pb: usize, pf: usize) -> Result<(), Refusal>
+    ensures { number_of result ≡ first_refusal 0 (point_tests n k al pb pf) }
 {
-    let h = room / 2;
-    if m > h {
-        return true;
-    }
-    k > h - m
+    require(al == 12, Refusal::Length)?;
+    require(pb == 2 * sizes::log2(n), Refusal::Length)?;
+    require(pf == 2 * sizes::log2(k), Refusal::Length)
 }
 
-// 1; z, the number that 4 to 7 gave; 11: words of the alphas and of the points; 15: words of scratch and of output.
-pub(crate) fn refusal(
-    z: u32,
+// 15: words of scratch and of output, for m columns and for n and k rows.
+#[tactic(auto, using(crate::proofs::Chains::roomy), unfolding(magnetar_layout::specs::Tests::or_refuse))]
+pub(crate) fn room_fits(
     m: usize,
-    nb: usize,
-    nf: usize,
-    al: usize,
-    pb: usize,
-    pf: usize,
-    out: usize,
+    n: usize,
+    k: usize,
     scratch: usize,
-) -> u32
-    ensures { result ≡ first_refusal 0 (combo_tests_by z m nb nf al pb pf out scratch) }
+    out: usize,
+) -> Result<(), Refusal>
+    ensures { number_of result ≡ first_refusal 0 (table_scratch_tests m n k scratch out) }
 {
-    let y = tests::refuse(0, 1, !tests::is_size(2, 65536, m));
-    let y = tests::refuse(y, z, true);
-    let y = tests::refuse(y, 11, al != 12);
-    let y = tests::refuse(y, 11, pb != 2 * sizes::log2(nb));
-    let y = tests::refuse(y, 11, pf != 2 * sizes::log2(nf));
-    let y = tests::refuse(y, 15, is_over(m, sizes::larger(nb, nf), scratch));
-    tests::refuse(y, 15, m > out / 2)
+    require(!is_over(m, n.max(k), scratch), Refusal::Room)?;
+    require(m <= out / 2, Refusal::Room)
 }

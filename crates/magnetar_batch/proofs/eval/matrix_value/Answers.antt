@@ -1,8 +1,11 @@
+use Rattle.magnetar_matrix.specs.Numbers.{entries_by}
+use Rattle.magnetar_matrix.proofs.EntryLists.{exchanged-are}
 use Rattle.magnetar_batch.proofs.ValueWalk.{matrix-ends}
 use Rattle.magnetar_batch.proofs.eval.matrix_value.Goals as goal
 
 pub returns : goal.returns
-returns c =
+returns g c =
     let x = c.args in
-    matrix-ends x.k x.m x.n x.p x.row.now x.col.now x.lo.now x.hi.now x.a x.e x.s.now _ _ _ _
-    c.clear_front.ensures c.add_columns.ensures c.front_value.ensures
+    let es = g.E.Entries.numbers x.es.now in
+    matrix-ends x.k x.m x.n x.p (entries_by es) x.s.now _ _ _ _ c.clear_front.ensures
+    (rw (exchanged-are es) at c.add_columns.ensures) c.front_value.ensures

@@ -1,31 +1,25 @@
-use Rattle.std.specs.Prelude.{◌≡◌, ◌+◌}
-use mathlib.Core.Path.{refl, ap, ◌∙◌}
+use Rattle.std.specs.Prelude.{◌+◌}
+use mathlib.Core.Path.{ap, ◌∙◌}
 use native.Mathlib.Numerals.{add-one}
 use native.Mathlib.Omega.{arith}
 use Rattle.magnetar_field.specs.Gf128.{value}
 use Rattle.magnetar_field.specs.Words.{elements}
 use Rattle.magnetar_field.proofs.Elements.{elements-length}
-use Rattle.magnetar_matrix.specs.Table.{raised}
 use Rattle.magnetar_matrix.proofs.Digits.{value-lt}
 use Rattle.magnetar_matrix.proofs.TableLaws.{added-in}
-use Rattle.magnetar_batch.proofs.Halves.{first_columns, columns-start, columns-more, half-end}
+use Rattle.magnetar_batch.proofs.Halves.{columns-start, columns-more, half-end}
 use borrow.Author.Rules.{rules}
 use Rattle.magnetar_batch.proofs.fold.add_half.Goals as goal
 
 pub loop-j-init : goal.loop-j-init
-loop-j-init c = let x = c.args in (refl, omega arith, refl, columns-start (elements x.x.now) (elements x.s.now) (value x.e))
+loop-j-init c = let x = c.args in columns-start (elements x.x.now) (elements x.s.now) (value x.e)
 
 pub loop-j-preserved : goal.loop-j-preserved
 loop-j-preserved c =
     let x = c.args in
     let l = c.loop-j in
-    let i : elements l.s ≡ raised (first_columns (elements x.x.now) (value x.e) l.j) (elements x.s.now) = l.invariant.3 in (
-      search rules,
-      omega arith,
-      l.invariant.2,
-      ap elements c.add_at.ensures ∙ (added-in l.s (l.j + 1) _
-          ∙ rw (c.times.ensures, c.get.ensures, i, add-one) (columns-more (elements x.x.now) (elements x.s.now) (value x.e) l.j)),
-    )
+    ap elements c.add_at.ensures ∙ (added-in l.s (l.j + 1) _
+    ∙ rw (c.times.ensures, c.get.ensures, l.invariant, add-one) (columns-more (elements x.x.now) (elements x.s.now) (value x.e) l.j))
 
 pub returns : goal.returns
 returns c =
@@ -33,4 +27,4 @@ returns c =
     let x = c.args in
     ap elements c.add_at-2.ensures ∙ (added-in l.s 0 _
     ∙ half-end (elements x.x.now) (elements x.s.now) (elements l.s) (value x.e) l.j (value-lt x.e.hi x.e.lo (search rules) (search rules))
-    (omega (arith, elements-length x.x.now, l.invariant.2)) l.invariant.3)
+    (omega (arith, elements-length x.x.now)) l.invariant)

@@ -14,10 +14,10 @@ pub returns-then-repeats : goal.returns-then-repeats
 returns-then-repeats c =
     let x = c.args in
     let e : take x.l (drop x.l x.x.now) ≡ take x.l x.x.now = repeated-is x.l x.x.now (sym c.repeats.ensures ∙ c.if-repeats.true) in
-    (ap (λ (y : List ℕ). raised (half_times (elements y) (value x.e)) (elements x.s.now)) e, λ h. absurd (omega (arith, h)))
+    record { held = ap (λ (y : List ℕ). raised (half_times (elements y) (value x.e)) (elements x.s.now)) e; last = λ h. absurd (omega (arith, h)) }
 
 pub slice_bounds-add_half-end : goal.slice_bounds-add_half-end
 slice_bounds-add_half-end c = sym (length-take-le _ _ c.requires)
 
 pub returns : goal.returns
-returns c = (nothing-held _ _ 0 refl ∙ c.add_half.ensures, λ _. refl)
+returns c = record { held = nothing-held _ _ 0 refl ∙ c.add_half.ensures; last = λ _. refl }

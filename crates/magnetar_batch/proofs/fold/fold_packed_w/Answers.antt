@@ -1,194 +1,27 @@
-use Rattle.std.specs.Prelude.{◌≡◌, ℕ, ◌*◌, ◌≤◌, ◌++◌, List, length}
-use mathlib.Core.Path.{refl, sym, ◌∙◌}
+use Rattle.std.specs.Prelude.{◌≡◌}
+use mathlib.Core.Path.{refl, ◌∙◌}
 use native.Mathlib.Omega.{arith}
-use lib.Seq.{length-take-le}
-use borrow.Author.Tests.{ltb-false, eqb-true, not-false}
-use Rattle.magnetar_field.specs.Sizes.{log₂}
-use Rattle.magnetar_layout.specs.Tests.{Tests, first_refusal, length_test, room_test, Sized}
-use Rattle.magnetar_r1cs.proofs.Points.{point-of, log-most}
-use Rattle.magnetar_matrix.specs.Packed.{login_words}
-use Rattle.magnetar_layout.specs.Tests.{size_tests, packed_tests}
-use Rattle.magnetar_batch.specs.Entries.{fold_refusal}
-use Rattle.magnetar_layout.proofs.FirstRefusal.{first-refusal-front, first-refusal-late, first-refusal-clear, turned, done}
-use Rattle.magnetar_layout.proofs.Laid.{half-size}
-use Rattle.magnetar_layout.proofs.SizeLaws.{not-bad, sized-wider}
-use Rattle.magnetar_matrix.proofs.TableLaws.{in-front}
-use Rattle.magnetar_matrix.proofs.LoginParts.{product-most, words-most}
-use Rattle.magnetar_batch.proofs.Folds.{fold_is}
-use Rattle.magnetar_r1cs.proofs.Points.{point-size}
 use lib.Dec.{lit≤}
+use lib.Seq.{length-take-le}
+use Rattle.magnetar_layout.specs.Tests.{Sized, or_refuse}
+use Rattle.magnetar_layout.proofs.FirstRefusal.{done}
+use Rattle.magnetar_layout.proofs.SizeLaws.{sized-wider}
+use Rattle.magnetar_matrix.proofs.TableLaws.{in-front}
+use Rattle.magnetar_r1cs.proofs.Points.{point-of, point-size}
+use Rattle.magnetar_batch.specs.Entries.{fold_refusal}
+use Rattle.magnetar_batch.proofs.Folds.{fold_is}
 use Rattle.magnetar_batch.proofs.fold.fold_packed_w.Goals as goal
 
--- the tests of the sizes, and those after them
-abbrev first : (w q : ℕ) → Tests
-first w q = size_tests (2 * w) q
+pub fold_in-requires-clause-point : goal.fold_in-requires-clause-point
+fold_in-requires-clause-point c =
+    let z : Sized 1 65536 c.args.q = sized-wider 65536 (lit≤ tt) c.in_ok-sizes_fit.ensures.fit.2 in
+    point-of 1 c.args.q _ _ z (grind arith) (length-take-le _ _ (grind arith))
 
-abbrev rest : (w q : ℕ) → (ws p o t : List ℕ) → Tests
-rest w q ws p o t = packed_tests w q ws ++ length_test (2 * log₂ q) p ++ room_test (2 * w) o ++ room_test (2 * q) t
-
--- what is known where the first refuse nothing
-record Small (w q : ℕ) : Type 0 where
-  half : w ≤ 32768
-  logins : Sized 1 4096 q
-
-small : (w q n : ℕ) → n ≡ first_refusal 0 (first w q) → n ≡ 0 → Small w q
-small w q n early clear =
-    let k = (first-refusal-clear 0 (first w q) refl (sym early ∙ clear)).1 in
-    let z = not-bad k.0 in
-    record { half = omega (arith, z.high); logins = not-bad k.1.0 }
-
--- and where the others do not
-record Fits (w q : ℕ) (ws p o t : List ℕ) : Type 0 where
-  packed : length ws ≡ q * login_words w
-  point : length p ≡ 2 * log₂ q
-  out : 2 * w ≤ length o
-  scratch : 2 * q ≤ length t
-
-fits : (w q : ℕ) (ws p o t : List ℕ) (n : ℕ) → n ≡ first_refusal 0 (rest w q ws p o t) → n ≡ 0 → Fits w q ws p o t
-fits w q ws p o t n late clear =
-    let k = (first-refusal-clear 0 (rest w q ws p o t) refl (sym late ∙ clear)).1 in
-    record {
-      packed = eqb-true _ _ (not-false _ k.0);
-      point = eqb-true _ _ (not-false _ k.1.0);
-      out = ltb-false _ _ k.1.1.0;
-      scratch = ltb-false _ _ k.1.1.1.0;
-    }
-
-pub returns-then-n-ne0 : goal.returns-then-n-ne0
-unfolding fold_refusal
-returns-then-n-ne0 c =
+pub returns-clause-folded : goal.returns-clause-folded
+unfolding fold_refusal or_refuse
+returns-clause-folded c =
     let x = c.args in
-    let early : c.refuse-n-2.result ≡ first_refusal 0 (first x.w x.q) =
-    rw (c.refuse-n-2.ensures, c.is_size-2.ensures, c.refuse-n.ensures, c.is_size.ensures, half-size x.w) in
-    let e = first-refusal-front (first x.w x.q) (rest x.w x.q x.packed.now x.point.now x.out.now x.scratch.now) _ early c.if-n-ne0.true in record {
-      answer = e;
-      folded = turned _ _ e c.if-n-ne0.true;
-      cleared = turned _ _ e c.if-n-ne0.true;
-    }
-
-pub overflow_mul-q : goal.overflow_mul-q
-overflow_mul-q c =
-    let x = c.args in
-    let early : c.refuse-n-2.result ≡ first_refusal 0 (first x.w x.q) =
-    rw (c.refuse-n-2.ensures, c.is_size-2.ensures, c.refuse-n.ensures, c.is_size.ensures, half-size x.w) in
-    let m = small x.w x.q _ early c.if-n-ne0.false in
-    omega (arith, product-most x.q c.login_words.result m.logins.high (rw c.login_words.ensures (words-most _ m.half)))
-
-pub overflow_mul-log2 : goal.overflow_mul-log2
-overflow_mul-log2 c =
-    let x = c.args in
-    let early : c.refuse-n-2.result ≡ first_refusal 0 (first x.w x.q) =
-    rw (c.refuse-n-2.ensures, c.is_size-2.ensures, c.refuse-n.ensures, c.is_size.ensures, half-size x.w) in
-    let m = small x.w x.q _ early c.if-n-ne0.false in
-    let z = sized-wider 65536 (lit≤ tt) m.logins in
-    omega (arith, c.log2.ensures.0, log-most _ z.high z.power)
-
-pub overflow_mul-w : goal.overflow_mul-w
-overflow_mul-w c =
-    let x = c.args in
-    let early : c.refuse-n-2.result ≡ first_refusal 0 (first x.w x.q) =
-    rw (c.refuse-n-2.ensures, c.is_size-2.ensures, c.refuse-n.ensures, c.is_size.ensures, half-size x.w) in
-    let m = small x.w x.q _ early c.if-n-ne0.false in
-    omega (arith, m.half)
-
-pub overflow_mul-q-2 : goal.overflow_mul-q-2
-overflow_mul-q-2 c =
-    let x = c.args in
-    let early : c.refuse-n-2.result ≡ first_refusal 0 (first x.w x.q) =
-    rw (c.refuse-n-2.ensures, c.is_size-2.ensures, c.refuse-n.ensures, c.is_size.ensures, half-size x.w) in
-    let m = small x.w x.q _ early c.if-n-ne0.false in
-    omega (arith, m.logins.high)
-
-pub returns-then-n-ne0-2 : goal.returns-then-n-ne0-2
-unfolding fold_refusal
-returns-then-n-ne0-2 c =
-    let x = c.args in
-    let early : c.refuse-n-2.result ≡ first_refusal 0 (first x.w x.q) =
-    rw (c.refuse-n-2.ensures, c.is_size-2.ensures, c.refuse-n.ensures, c.is_size.ensures, half-size x.w) in
-    let late : c.refuse-n-6.result ≡ first_refusal 0 (rest x.w x.q x.packed.now x.point.now x.out.now x.scratch.now) =
-    rw (c.refuse-n-6.ensures, c.refuse-n-5.ensures, c.refuse-n-4.ensures, c.log2.ensures.0, c.refuse-n-3.ensures, c.login_words.ensures) in
-    let e = first-refusal-late (first x.w x.q) (rest x.w x.q x.packed.now x.point.now x.out.now x.scratch.now) _ _ early c.if-n-ne0.false late in record {
-      answer = e;
-      folded = turned _ _ e c.if-n-ne0-2.true;
-      cleared = turned _ _ e c.if-n-ne0-2.true;
-    }
-
-pub overflow_mul-end : goal.overflow_mul-end
-overflow_mul-end c =
-    let x = c.args in
-    let early : c.refuse-n-2.result ≡ first_refusal 0 (first x.w x.q) =
-    rw (c.refuse-n-2.ensures, c.is_size-2.ensures, c.refuse-n.ensures, c.is_size.ensures, half-size x.w) in
-    let m = small x.w x.q _ early c.if-n-ne0.false in
-    omega (arith, m.half)
-
-pub overflow_mul-room : goal.overflow_mul-room
-overflow_mul-room c =
-    let x = c.args in
-    let early : c.refuse-n-2.result ≡ first_refusal 0 (first x.w x.q) =
-    rw (c.refuse-n-2.ensures, c.is_size-2.ensures, c.refuse-n.ensures, c.is_size.ensures, half-size x.w) in
-    let m = small x.w x.q _ early c.if-n-ne0.false in
-    omega (arith, m.logins.high)
-
-pub slice_bounds-fold_in-end : goal.slice_bounds-fold_in-end
-slice_bounds-fold_in-end c =
-    let x = c.args in
-    let late : c.refuse-n-6.result ≡ first_refusal 0 (rest x.w x.q x.packed.now x.point.now x.out.now x.scratch.now) =
-    rw (c.refuse-n-6.ensures, c.refuse-n-5.ensures, c.refuse-n-4.ensures, c.log2.ensures.0, c.refuse-n-3.ensures, c.login_words.ensures) in
-    let f = fits x.w x.q x.packed.now x.point.now x.out.now x.scratch.now _ late c.if-n-ne0-2.false in
-    f.out
-
-pub slice_bounds-fold_in-end-2 : goal.slice_bounds-fold_in-end-2
-slice_bounds-fold_in-end-2 c =
-    let x = c.args in
-    let late : c.refuse-n-6.result ≡ first_refusal 0 (rest x.w x.q x.packed.now x.point.now x.out.now x.scratch.now) =
-    rw (c.refuse-n-6.ensures, c.refuse-n-5.ensures, c.refuse-n-4.ensures, c.log2.ensures.0, c.refuse-n-3.ensures, c.login_words.ensures) in
-    let f = fits x.w x.q x.packed.now x.point.now x.out.now x.scratch.now _ late c.if-n-ne0-2.false in
-    sym (length-take-le _ _ f.out)
-
-pub slice_bounds-fold_in-end-3 : goal.slice_bounds-fold_in-end-3
-slice_bounds-fold_in-end-3 c =
-    let x = c.args in
-    let late : c.refuse-n-6.result ≡ first_refusal 0 (rest x.w x.q x.packed.now x.point.now x.out.now x.scratch.now) =
-    rw (c.refuse-n-6.ensures, c.refuse-n-5.ensures, c.refuse-n-4.ensures, c.log2.ensures.0, c.refuse-n-3.ensures, c.login_words.ensures) in
-    let f = fits x.w x.q x.packed.now x.point.now x.out.now x.scratch.now _ late c.if-n-ne0-2.false in
-    f.scratch
-
-pub slice_bounds-fold_in-end-4 : goal.slice_bounds-fold_in-end-4
-slice_bounds-fold_in-end-4 c =
-    let x = c.args in
-    let late : c.refuse-n-6.result ≡ first_refusal 0 (rest x.w x.q x.packed.now x.point.now x.out.now x.scratch.now) =
-    rw (c.refuse-n-6.ensures, c.refuse-n-5.ensures, c.refuse-n-4.ensures, c.log2.ensures.0, c.refuse-n-3.ensures, c.login_words.ensures) in
-    let f = fits x.w x.q x.packed.now x.point.now x.out.now x.scratch.now _ late c.if-n-ne0-2.false in
-    sym (length-take-le _ _ f.scratch)
-
-pub fold_in-requires : goal.fold_in-requires
-fold_in-requires c =
-    let x = c.args in
-    let early : c.refuse-n-2.result ≡ first_refusal 0 (first x.w x.q) =
-    rw (c.refuse-n-2.ensures, c.is_size-2.ensures, c.refuse-n.ensures, c.is_size.ensures, half-size x.w) in
-    let late : c.refuse-n-6.result ≡ first_refusal 0 (rest x.w x.q x.packed.now x.point.now x.out.now x.scratch.now) =
-    rw (c.refuse-n-6.ensures, c.refuse-n-5.ensures, c.refuse-n-4.ensures, c.log2.ensures.0, c.refuse-n-3.ensures, c.login_words.ensures) in
-    let m = small x.w x.q _ early c.if-n-ne0.false in
-    let f = fits x.w x.q x.packed.now x.point.now x.out.now x.scratch.now _ late c.if-n-ne0-2.false in
-    record {
-      w_bound = (m.half, m.logins.high, f.packed);
-      out_len = rw (length-take-le _ _ f.out) (omega arith);
-      point = point-of _ _ _ _ (sized-wider 65536 (lit≤ tt) m.logins) f.point (length-take-le _ _ f.scratch);
-    }
-
-pub returns : goal.returns
-unfolding fold_refusal
-returns c =
-    let x = c.args in
-    let early : c.refuse-n-2.result ≡ first_refusal 0 (first x.w x.q) =
-    rw (c.refuse-n-2.ensures, c.is_size-2.ensures, c.refuse-n.ensures, c.is_size.ensures, half-size x.w) in
-    let late : c.refuse-n-6.result ≡ first_refusal 0 (rest x.w x.q x.packed.now x.point.now x.out.now x.scratch.now) =
-    rw (c.refuse-n-6.ensures, c.refuse-n-5.ensures, c.refuse-n-4.ensures, c.log2.ensures.0, c.refuse-n-3.ensures, c.login_words.ensures) in
-    let m = small x.w x.q _ early c.if-n-ne0.false in
-    let f = fits x.w x.q x.packed.now x.point.now x.out.now x.scratch.now _ late c.if-n-ne0-2.false in
-    let e = sym c.if-n-ne0-2.false ∙ first-refusal-late (first x.w x.q) (rest x.w x.q x.packed.now x.point.now x.out.now x.scratch.now) _ _ early c.if-n-ne0.false late in
-    let z = sized-wider 65536 (lit≤ tt) m.logins in record {
-      answer = e;
-      folded = in-front _ _ _ _ f.out c.fold_in.ensures.out_after ∙ rw (fold_is x.q x.w x.packed.now _ (point-size _ _ _ z f.point)) (done _ _ e refl);
-      cleared = rw (c.fold_in.ensures.s_after, length-take-le (2 * x.q) x.scratch.now f.scratch) (done _ _ e refl);
-    }
+    let z : Sized 1 65536 x.q = sized-wider 65536 (lit≤ tt) c.in_ok-sizes_fit.ensures.fit.2 in
+    let e : 0 ≡ fold_refusal x.packed.now x.q x.w x.point.now x.out.now x.scratch.now = grind arith in
+    in-front _ x.w x.out.now _ (grind arith) c.fold_in.ensures.out_after
+    ∙ rw (fold_is x.q x.w x.packed.now _ (point-size 1 x.q x.point.now z (grind arith))) (done _ _ e refl)

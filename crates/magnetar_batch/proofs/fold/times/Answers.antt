@@ -8,4 +8,5 @@ use Rattle.magnetar_batch.proofs.fold.times.Goals as goal
 pub returns-then-is_bit : goal.returns-then-is_bit
 returns-then-is_bit c =
     let x = c.args in
-    c.mul_bit.ensures ∙ (digit-⊗ _ _ (ltb-true _ _ (sym c.is_bit.ensures ∙ c.if-is_bit.true)) (value-lt x.e.hi x.e.lo (search rules) (search rules)) ∙ ⊗-comm _ _)
+    let bit = ltb-true _ _ (sym c.is_bit.ensures ∙ c.if-is_bit.true) in
+    c.mul_bit.ensures ∙ (digit-⊗ _ _ bit (value-lt x.e.hi x.e.lo (search rules) (search rules)) ∙ ⊗-comm _ _)

@@ -4,5 +4,4 @@ use Rattle.magnetar_batch.proofs.table.add_column.Goals as goal
 
 pub returns : goal.returns
 unfolding column_added
-returns c =
-    c.add_to.ensures ∙ rw (c.scale.ensures, c.get_between-f.ensures)
+returns c = c.add_to.ensures ∙ rw (c.scale.ensures, c.value.ensures, c.get_between-f.ensures)

@@ -1,21 +1,15 @@
+use mathlib.Core.Path.{sym, ◌∙◌}
 use native.Mathlib.Omega.{arith}
+use borrow.Author.Tests.{ltb-true, ltb-false}
 use Rattle.magnetar_batch.proofs.TableWalk.{cleared-behind-some, cleared-behind-none}
 use Rattle.magnetar_batch.proofs.table.clear_behind.Goals as goal
 
-pub returns-then-k-h : goal.returns-then-k-h
-returns-then-k-h c =
+pub returns-then-not-is_over : goal.returns-then-not-is_over
+returns-then-not-is_over c =
     let x = c.args in
-    let k = c.larger-k in
-    cleared-behind-some x.m k.result _ x.s.now _ k.ensures (omega arith) c.clear.ensures
+    cleared-behind-some x.m c.max-k.result _ x.s.now _ (omega arith) (ltb-false _ _ (sym c.is_over.ensures ∙ c.if-not-is_over.true)) c.clear.ensures
 
-pub returns-else-k-h : goal.returns-else-k-h
-returns-else-k-h c =
+pub returns-else-not-is_over : goal.returns-else-not-is_over
+returns-else-not-is_over c =
     let x = c.args in
-    let k = c.larger-k in
-    cleared-behind-none x.m k.result _ x.s.now k.ensures (omega arith)
-
-pub returns-else-m-h : goal.returns-else-m-h
-returns-else-m-h c =
-    let x = c.args in
-    let k = c.larger-k in
-    cleared-behind-none x.m k.result _ x.s.now k.ensures (omega arith)
+    cleared-behind-none x.m c.max-k.result _ x.s.now (omega arith) (ltb-true _ _ (sym c.is_over.ensures ∙ c.if-not-is_over.false))

@@ -6,10 +6,7 @@ use Rattle.magnetar_batch.proofs.table.eq_from.Goals as goal
 pub returns-then-m-s : goal.returns-then-m-s
 returns-then-m-s c =
     let x = c.args in
-    let l = c.least-l in
-    let j = c.log2 in
-    let e = c.build-done.ensures.table in
-    eq-behind-read x.m x.n l.result j.result (value x.c) x.p x.s.now _ (omega arith) l.ensures.0 j.ensures.0 e
+    eq-behind-read x.m x.n c.min-l.result c.log2.result (value x.c) x.p x.s.now _ (omega arith) (omega arith) c.log2.ensures.0 c.build-done.ensures.table
 
 pub returns-else-m-s : goal.returns-else-m-s
 returns-else-m-s c = let x = c.args in eq-behind-none x.m _ _ x.s.now (omega arith)

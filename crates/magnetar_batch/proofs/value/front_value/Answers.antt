@@ -9,21 +9,21 @@ use Rattle.magnetar_layout.proofs.SizeLaws.{sized}
 use Rattle.magnetar_r1cs.proofs.Points.{log-most}
 use Rattle.magnetar_batch.proofs.ValueWalk.{front-some, front-short, front-none}
 use Rattle.magnetar_batch.proofs.value.front_value.Goals as goal
+use Rattle.magnetar_batch.proofs.value.front_value.Goals.{else-is_size-via-then-is_size+else-n-s, else-is_size-via-else-is_size}
 
 -- the logarithm of a size
 small : (n k : ℕ) → is_size 1 65536 n ≡ true → k ≡ log₂ n → k ≤ 16
 small n k t e = let z = sized 1 65536 n t in omega (arith, e, log-most n z.high z.power)
 
-pub slice_bounds-bind_all-end : goal.slice_bounds-bind_all-end
-slice_bounds-bind_all-end c = omega (arith, c.if-n-s.true)
-
-pub slice_bounds-bind_all-end-then-n-s : goal.slice_bounds-bind_all-end-then-n-s
-slice_bounds-bind_all-end-then-n-s c = rw length-take (omega (arith, c.if-n-s.true))
+pub slice_bounds-p-end : goal.slice_bounds-p-end
+slice_bounds-p-end c =
+    let told = sym c.is_size.ensures ∙ c.if-is_size.true in
+    omega (arith, small c.args.n c.log2-l.result told c.log2-l.ensures.0)
 
 pub slice_bounds-bind_all-end-then-n-s-2 : goal.slice_bounds-bind_all-end-then-n-s-2
 slice_bounds-bind_all-end-then-n-s-2 c =
     let told = sym c.is_size.ensures ∙ c.if-is_size.true in
-    omega (arith, small c.args.n c.log2-l.result told c.log2-l.ensures.0)
+    rw length-take (omega (arith, small c.args.n c.log2-l.result told c.log2-l.ensures.0))
 
 pub bind_all-requires : goal.bind_all-requires
 bind_all-requires c =
@@ -42,10 +42,10 @@ returns-then-n-s c =
     front-some x.n x.p x.s.now c.log2-l.result (value v.result) v.new.t (sym c.is_size.ensures ∙ c.if-is_size.true) c.if-n-s.true
     c.log2-l.ensures.0 v.ensures.0 v.ensures.1
 
-pub returns-else-n-s : goal.returns-else-n-s
-returns-else-n-s c =
-    let x = c.args in
-    front-short x.n x.p x.s.now (sym c.is_size.ensures ∙ c.if-is_size.true) (omega (arith, c.if-n-s.false))
-
 pub returns-else-is_size : goal.returns-else-is_size
-returns-else-is_size c = front-none c.args.n c.args.p c.args.s.now (sym c.is_size.ensures ∙ c.if-is_size.false)
+returns-else-is_size c =
+    let x = c.args in
+    elim c.else-is_size.branch [
+      | else-is_size-via-then-is_size+else-n-s w ↦ front-short x.n x.p x.s.now (sym c.is_size.ensures ∙ w.if-is_size.true) (omega (arith, w.if-n-s.false))
+      | else-is_size-via-else-is_size w ↦ front-none x.n x.p x.s.now (sym c.is_size.ensures ∙ w.if-is_size.false)
+    ]

@@ -1,7 +1,0 @@
-use mathlib.Core.Path.{refl}
-use Rattle.magnetar_field.specs.Words.{elements}
-use Rattle.magnetar_batch.proofs.value.no_words.Goals as goal
-
-pub returns : goal.returns
-unfolding elements
-returns c = refl
