@@ -7,18 +7,21 @@
 --     returns-in_err-f c = out-front L K _ _ c.from_residual.ensures.1 c.in_err-f.ensures
 --     returns-in_err-g c = late L K c.in_ok-f.ensures (out K _ _ c.from_residual.ensures.1 c.in_err-g.ensures)
 --     returns c = late L K c.in_ok-f.ensures c.g.ensures
--- where `f` is the callee of L, and `g` that of K. `cleared` says of a callee that passed that each of its tests did.
+-- where `f` is the callee of L, and `g` that of K. Where what was lent stays or is changed (`unless_refused`), answer both clauses:
+--     let a = out-front .. in record { refusal = a; written = unchanged _ c.from_residual.result c.from_residual.ensures.0 a }
+-- `cleared` says of a callee that passed that each of its tests did.
 -- Assumes nothing.
 use Rattle.std.specs.Prelude.{Result, Ok, Err}
-use Rattle.std.specs.Result.{IsErrAnd}
+use Rattle.std.specs.Result.{IsErr, IsErrAnd}
 use Rattle.std.proofs.Common.{◌≡◌, refl, sym, ◌∙◌, ℕ, ◌<◌, Bool, true, false, not, if◌then◌else◌, [], ◌∷◌, ◌++◌, arith}
 use borrow.Author.Tests.{ne_eqb}
 use Rattle.magnetar_field.specs.declared.refusal.Refusal.{Refusal}
 use Rattle.magnetar_field.specs.Number.{number, number_of}
+use Rattle.magnetar_field.specs.Refusal.{unless_refused}
 use Rattle.magnetar_field.proofs.Handed.{handed}
 use Rattle.magnetar_layout.specs.Tests.{Tests, or_refuse, first_refusal}
 use Rattle.magnetar_layout.proofs.FirstRefusal.{Clear, numbered, first-refusal-clear, first-refusal-front, first-refusal-late}
-use Rattle.magnetar_layout.proofs.Refused.{number-positive}
+use Rattle.magnetar_layout.proofs.Refused.{number-positive, failed}
 use Rattle.magnetar_layout.proofs.SizeLaws.{sized}
 use Rattle.magnetar_layout.proofs.Laid.{half-size}
 
@@ -57,6 +60,13 @@ late l k {z} e f = first-refusal-late l k 0 z e refl f
 -- and each of them was
 pub cleared : (l : Tests) → numbered l ≡ true → 0 ≡ first_refusal 0 l → Clear l
 cleared l n e = (first-refusal-clear 0 l n (sym e)).1
+
+-- what a refused call leaves, by its answer, and what another one leaves
+pub unchanged : {A B : Type 0} {z : ℕ} (new : B) {old : B} (r : Result A Refusal) → IsErr r → number_of r ≡ z → old ≡ unless_refused z new old
+unchanged {z = z} new r h e = rw (ne_eqb z 0 (failed r e h))
+
+pub changed : {B : Type 0} {z : ℕ} {left new : B} (old : B) → 0 ≡ z → left ≡ new → left ≡ unless_refused z new old
+changed old e h = rw (← e, h)
 
 -- a `require` that was passed: its test holds
 pub held : (b : Bool) (e : Refusal) (u : Unit {0}) → Ok u ≡ (if b then Ok tt else Err e) → b ≡ true

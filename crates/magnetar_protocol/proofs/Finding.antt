@@ -83,3 +83,12 @@ found-front cs ds e h = sym (after-append nothing cs ds ∙ rw (← h) (failure-
 -- where it has found none, the rest decides
 pub found-late : (cs ds : List Check) {f : Found} → nothing ≡ after nothing cs → f ≡ after nothing ds → f ≡ after nothing (cs ++ ds)
 found-late cs ds h e = e ∙ sym (after-append nothing cs ds ∙ rw (← h))
+
+-- the same of two checks
+pub both-front : (c d : Check) (e : Failure) → failed e ≡ next_found nothing c → failed e ≡ next_found (next_found nothing c) d
+both-front c d e h =
+    let p = number-positive e.check in
+    rw (← h) (sym (next-kept (failed e) d (λ (z : number e.check ≡ 0). omega arith)))
+
+pub both-late : (c d : Check) {f : Found} → nothing ≡ next_found nothing c → f ≡ next_found nothing d → f ≡ next_found (next_found nothing c) d
+both-late c d h e = e ∙ rw (← h)

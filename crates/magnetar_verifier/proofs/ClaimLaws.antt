@@ -1,14 +1,14 @@
--- The claims one by one are those of a run; the answer of `write_claims`, and what its tests leave.
+-- The claims are those of a run, part by part; the answer of `write_claims`.
 -- Assumes nothing.
 use mathlib.Core.Path.{◌≡◌, refl, sym, ap, ◌∙◌}
-use mathlib.Core.Bool.{Bool, true, false, cond}
-use mathlib.Core.List.{List, ◌++◌, reverse}
-use Prim.Native.Nat.{ℕ, ◌+◌, ◌-◌, ◌*◌, ◌≤◌, ◌<◌}
+use mathlib.Core.List.{List, [], ◌∷◌, ◌++◌, reverse, append_assoc, append-nil}
+use Prim.Native.Nat.{ℕ, zero, suc, ◌+◌, ◌-◌, ◌*◌, ◌^◌, ◌<◌}
 use native.Mathlib.Omega.{arith}
-use lib.Dec.{ltb}
-use lib.ListN.{length, get_or, drop, length-append, length-drop, get_or-append}
-use lib.Seq.{length-take-le, get_or-append-add, take-take, get_or-drop}
-use borrow.Author.Tests.{ne_eqb, le-ltb, ltb-true, ltb-false}
+use lib.ListN.{length, get_or, drop, length-append, length-drop}
+use lib.Seq.{take-take, take_all, take_at, drop_at}
+use Rattle.std.proofs.lemmas.List.{drop_all}
+use borrow.Author.Tests.{le-ltb}
+use borrow.Rule.Slice.PartMut.{put_mid}
 use Rattle.magnetar_field.specs.Sizes.{log₂}
 use Rattle.magnetar_field.specs.Tabulate.{tabulate}
 use Rattle.magnetar_field.specs.Words.{elements, words}
@@ -17,36 +17,15 @@ use Rattle.magnetar_field.proofs.Tabulation.{tabulate-of}
 use Rattle.magnetar_sumcheck_verifier.specs.Order.{place_of}
 use Rattle.magnetar_sumcheck_prover.proofs.EqFactor.{point_at, length-point}
 use Rattle.magnetar_matrix.specs.Batch.{Relation}
-use Rattle.magnetar_layout.specs.Tests.{Tests, first_refusal}
-use Rattle.magnetar_layout.proofs.FirstRefusal.{first-refusal-front, first-refusal-rest}
-use Rattle.magnetar_protocol.specs.Shape.{log_logins, log_bin, log_fld, log_cols, before_end, proof_total, proof_elements, claim_count, sizes_only}
+use Rattle.magnetar_layout.specs.Tests.{Tests, room_test}
+use Rattle.magnetar_layout.proofs.Passing.{changed}
+use Rattle.magnetar_protocol.specs.Shape.{log_logins, log_bin, log_fld, log_cols, before_end, proof_elements, claim_count, sizes_only}
 use Rattle.magnetar_protocol.specs.Proof.{part, segment_values}
-use Rattle.magnetar_protocol.specs.Draws.{draw_total, draw_count, draws_of, login_point, low_point}
-use Rattle.magnetar_protocol.specs.RunTests.{outline_tests}
+use Rattle.magnetar_protocol.specs.Draws.{draws_of, login_point, low_point}
+use Rattle.magnetar_protocol.specs.RunTests.{draw_tests, proof_tests}
 use Rattle.magnetar_protocol.specs.Run.{claims}
-use Rattle.magnetar_verifier.specs.Steps.{word_tests}
-use Rattle.magnetar_verifier.specs.ClaimSteps.{claim_at}
-use Rattle.magnetar_verifier.proofs.Guards.{Given, given}
 use Rattle.magnetar_verifier.specs.Claims.{claims_refusal, claims_out}
-use Rattle.magnetar_verifier.proofs.Pieces.{part-get}
 use Rattle.magnetar_verifier.proofs.EqParts.{point-falling}
-
--- three lists one behind the other, entry by entry
-three : (a b e : List ℕ) (s n i : ℕ) → length a ≡ s → length b ≡ n
-    → get_or (a ++ (b ++ e)) i 0 ≡ cond (ltb i s) (get_or a i 0) (cond (ltb i (s + n)) (get_or b (i - s) 0) (get_or e (i - (s + n)) 0))
-three a b e s n i la lb = go (ltb i s) refl (ltb i (s + n)) refl
-  where
-    go : (t : Bool) → ltb i s ≡ t → (u : Bool) → ltb i (s + n) ≡ u
-        → get_or (a ++ (b ++ e)) i 0 ≡ cond (ltb i s) (get_or a i 0) (cond (ltb i (s + n)) (get_or b (i - s) 0) (get_or e (i - (s + n)) 0))
-    go true p u q = rw p (get_or-append a (b ++ e) 0 i (rw la (ltb-true i s p)))
-    go false p true q =
-        let h : i ≡ length a + (i - s) = omega (arith, ltb-false i s p) in
-        rw (p, q) (ap (λ (k : ℕ). get_or (a ++ (b ++ e)) k 0) h ∙ get_or-append-add a (b ++ e) (i - s) 0
-        ∙ get_or-append b e 0 (i - s) (omega (arith, ltb-true i (s + n) q, ltb-false i s p)))
-    go false p false q =
-        let h : i ≡ length a + (length b + (i - (s + n))) = omega (arith, ltb-false i (s + n) q) in
-        rw (p, q) (ap (λ (k : ℕ). get_or (a ++ (b ++ e)) k 0) h ∙ get_or-append-add a (b ++ e) (length b + (i - (s + n))) 0
-        ∙ get_or-append-add b e (i - (s + n)) 0)
 
 pub reverse-get : (l : List ℕ) (n i : ℕ) → length l ≡ n → i < n → get_or (reverse l) i 0 ≡ get_or l (n - 1 - i) 0
 unfolding place_of
@@ -57,87 +36,69 @@ reverse-get l n i e h =
 pub reverse-size : (l : List ℕ) (n : ℕ) → length l ≡ n → length (reverse l) ≡ n
 reverse-size l n e = ap length (sym (point-falling l n e)) ∙ length-point n l ∙ e
 
-module _ (r : Relation) (w d : List ℕ) (long : draw_count r ≤ length d) (exact : length w ≡ proof_elements r) where
-  abbrev s : ℕ
-  s = log_logins r
+-- the elements, the last one first, as they are written
+pub reverse-is : (l : List ℕ) (n : ℕ) → length l ≡ n → reverse l ≡ tabulate (λ i. get_or l (n - 1 - i) 0) n
+reverse-is l n e = tabulate-of (reverse l) (λ i. get_or l (n - 1 - i) 0) n 0 (reverse-size l n e) (λ i h. reverse-get l n i e h)
 
-  abbrev n : ℕ
-  n = log_cols r - 1
+-- ---- three parts of a slice, one behind the other, are written over it
+pub elements-join : (n : ℕ) (s t : List ℕ) → length s ≡ 2 * n → elements (s ++ t) ≡ elements s ++ elements t
+unfolding elements
+elements-join zero [] t h = refl
+elements-join zero (x ∷ s) t h = absurd (omega arith)
+elements-join (suc n) [] t h = absurd (omega arith)
+elements-join (suc n) (x ∷ []) t h = absurd (omega arith)
+elements-join (suc n) (x ∷ (y ∷ s)) t h = ap (λ (l : List ℕ). (y * 2 ^ 64 + x) ∷ l) (elements-join n s t (omega arith))
 
-  abbrev k : ℕ
-  k = s + log_bin r + (s + log_fld r)
+module _ (s x y z : List ℕ) (a k : ℕ) (lx : length x ≡ a) (ly : length y ≡ k) (lz : a + k + length z ≡ length s) where
+  abbrev two : List ℕ
+  two = put_mid a (a + k - a) (x ++ drop a s) y
 
-  abbrev j : ℕ
-  j = k + s + log_bin r + log_fld r + 6
+  two-is : two ≡ (x ++ y) ++ drop k (drop a s)
+  two-is =
+      let e : a + k - a ≡ k = omega arith in
+      rw (take_at x (drop a s) a lx, drop_at x (drop a s) a lx, e) (sym (append_assoc x y (drop k (drop a s))))
 
-  inst : length (part k s d) ≡ s
-  inst = length-take-le s (drop k d) (rw length-drop (omega arith))
+  two-length : length two ≡ length s
+  two-length = rw (two-is, length-append, length-append, length-drop, length-drop) (omega arith)
 
-  low : length (part j n d) ≡ n
-  low = length-take-le n (drop j d) (rw length-drop (omega arith))
+  pub three-is : put_mid (a + k) (length two - (a + k)) two z ≡ x ++ (y ++ z)
+  three-is =
+      let h : length (x ++ y) ≡ a + k = rw length-append (omega arith) in
+      let r : drop (length s - (a + k)) (drop k (drop a s)) ≡ [] =
+      drop_all (length s - (a + k)) (drop k (drop a s)) (rw (length-drop, length-drop) (omega arith)) in
+      rw (two-length, two-is, take_at (x ++ y) (drop k (drop a s)) (a + k) h, drop_at (x ++ y) (drop k (drop a s)) (a + k) h, r, append-nil) (append_assoc x y z)
 
-  claims-are : claims r w d ≡ reverse (part k s d) ++ (part j n d ++ drop (before_end r + 1) w)
-  unfolding claims login_point low_point draws_of segment_values
-  claims-are = rw (take-take n (log_cols r) (drop j d) (omega arith))
+-- ---- the claims
+-- of a run with s, b, f and c rounds of each kind and l segments, part by part
+abbrev pub claim_parts : (s b f c l : ℕ) → (w d : List ℕ) → List ℕ
+claim_parts s b f c l w d =
+    reverse (part (s + b + (s + f)) s d)
+    ++ (part (s + b + (s + f) + s + b + f + 6) (c - 1) d ++ part (8 * s + 4 * b + 4 * f + 6 + 3 * c + 1) l w)
 
-  pub claims-tabled : claims r w d ≡ tabulate (claim_at s n k j (before_end r + 1) w d) (claim_count r)
-  unfolding claim_at
-  claims-tabled = claims-are ∙ tabulate-of (reverse (part k s d) ++ (part j n d ++ drop (before_end r + 1) w))
-      (claim_at s n k j (before_end r + 1) w d) (claim_count r) 0
-      (rw (length-append, length-append, reverse-size (part k s d) s inst, low, length-drop) (omega arith))
-      (λ i h. three (reverse (part k s d)) (part j n d) (drop (before_end r + 1) w) s n i (reverse-size (part k s d) s inst) low ∙ each i (ltb i s) refl (ltb i (s + n)) refl)
-    where
-      each : (i : ℕ) (t : Bool) → ltb i s ≡ t → (u : Bool) → ltb i (s + n) ≡ u
-          → cond (ltb i s) (get_or (reverse (part k s d)) i 0)
-          (cond (ltb i (s + n)) (get_or (part j n d) (i - s) 0) (get_or (drop (before_end r + 1) w) (i - (s + n)) 0))
-          ≡ cond (ltb i s) (get_or d (k + (s - 1 - i)) 0) (cond (ltb i (s + n)) (get_or d (j + (i - s)) 0) (get_or w (before_end r + 1 + (i - (s + n))) 0))
-      each i true p u q = rw p (reverse-get (part k s d) s i inst (ltb-true i s p) ∙ part-get k s (s - 1 - i) d (omega (arith, ltb-true i s p)))
-      each i false p true q = rw (p, q) (part-get j n (i - s) d (omega (arith, ltb-false i s p, ltb-true i (s + n) q)))
-      each i false p false q = rw (p, q) (get_or-drop (before_end r + 1) w (i - (s + n)) 0)
+claims-are : (r : Relation) (w d : List ℕ) → length w ≡ proof_elements r
+    → claim_parts (log_logins r) (log_bin r) (log_fld r) (log_cols r) (length r.lengths) w d ≡ claims r w d
+unfolding claims login_point low_point draws_of segment_values
+claims-are r w d exact =
+    rw (
+      take-take (log_cols r - 1) (log_cols r)
+          (drop (log_logins r + log_bin r + (log_logins r + log_fld r) + log_logins r + log_bin r + log_fld r + 6) d) (omega arith),
+      take_all (length r.lengths) (drop (before_end r + 1) w) (rw length-drop (omega arith)),
+    )
 
 -- ---- the answer
 module _ (m q rb rf : ℕ) (ns p d out : List ℕ) where
-  abbrev later : Tests
-  later = word_tests (log₂ q) (log₂ rb) (log₂ rf) (log₂ m) (length ns) (length p) (length d) (2 * claim_count (sizes_only m q rb rf ns)) (length out)
+  abbrev R : Relation
+  R = sizes_only m q rb rf ns
 
-  -- a size or the layout refuses
-  size_is : (z : ℕ) → z ≡ first_refusal 0 (outline_tests m q rb rf ns) → (z ≡ 0 → ⊥) → z ≡ claims_refusal m q rb rf ns p d out
-  unfolding claims_refusal
-  size_is z e h = first-refusal-front (outline_tests m q rb rf ns) later z e h
+  -- the tests after those of the sizes and the segments
+  abbrev pub claims_later : Tests
+  claims_later = draw_tests R d ++ (room_test (2 * claim_count R) out ++ proof_tests R p)
 
-  pub claims-size : (z : ℕ) → z ≡ first_refusal 0 (outline_tests m q rb rf ns) → (z ≡ 0 → ⊥)
-      → (z ≡ claims_refusal m q rb rf ns p d out) × (out ≡ claims_out m q rb rf ns p d out)
+  pub claims-written : 0 ≡ claims_refusal m q rb rf ns p d out → (front : List ℕ) (need : ℕ) → need ≡ 2 * claim_count R
+      → length p ≡ 2 * proof_elements R → words (elements front) ≡ front
+      → elements front ≡ claim_parts (log₂ q) (log₂ rb) (log₂ rf) (log₂ m) (length ns) (elements p) (elements d)
+      → front ++ drop need out ≡ claims_out m q rb rf ns p d out
   unfolding claims_out
-  claims-size z e h = (size_is z e h, rw (← size_is z e h, ne_eqb z 0 h))
-
-module _ (m q rb rf : ℕ) (ns p d out : List ℕ) (s b f c n z : ℕ) (es : s ≡ log₂ q) (eb : b ≡ log₂ rb) (ef : f ≡ log₂ rf) (ec : c ≡ log₂ m)
-    (en : n ≡ c - 1) (need : ℕ) (ew : need ≡ 2 * (s + n + length ns))
-    (ez : z ≡ first_refusal 0 (word_tests s b f c (length ns) (length p) (length d) need (length out))) (y : ℕ)
-    (ey : y ≡ first_refusal 0 (outline_tests m q rb rf ns)) (hy : y ≡ 0) where
-  same-refusal : z ≡ claims_refusal m q rb rf ns p d out
-  unfolding claims_refusal
-  same-refusal =
-      let e : first_refusal 0 (word_tests s b f c (length ns) (length p) (length d) need (length out)) ≡ first_refusal 0 (later m q rb rf ns p d out) =
-      rw (ew, en, es, eb, ef, ec) in
-      ez ∙ e ∙ sym (first-refusal-rest (outline_tests m q rb rf ns) (later m q rb rf ns p d out) y ey hy)
-
-  pub claims-refused : (z ≡ 0 → ⊥) → (z ≡ claims_refusal m q rb rf ns p d out) × (out ≡ claims_out m q rb rf ns p d out)
-  unfolding claims_out
-  claims-refused h = (same-refusal, rw (← same-refusal, ne_eqb z 0 h))
-
-  pub claims-fit : z ≡ 0 → Given s b f c (length ns) (length p) (length d) need (length out)
-  claims-fit h = given s b f c (length ns) (length p) (length d) need (length out) z ez h
-
-  pub claims-written : z ≡ 0 → (front : List ℕ)
-      → words (elements front) ≡ front
-      → elements front ≡ tabulate (claim_at s n (s + b + (s + f)) (s + b + (s + f) + s + b + f + 6) (8 * s + 4 * b + 4 * f + 6 + 3 * c + 1) (elements p) (elements d))
-      (s + n + length ns)
-      → (◌≡◌ {A = ℕ} 0 (claims_refusal m q rb rf ns p d out)) × (front ++ drop (2 * (s + n + length ns)) out ≡ claims_out m q rb rf ns p d out)
-  unfolding claims_out
-  claims-written h front ef₀ e =
-      let g = claims-fit h in
-      let drawn : length d ≡ 2 * draw_total (log₂ q) (log₂ rb) (log₂ rf) (log₂ m) = rw (es, eb, ef, ec) at g.drawn in
-      let exact : length p ≡ 2 * proof_total (log₂ q) (log₂ rb) (log₂ rf) (log₂ m) (length ns) = rw (es, eb, ef, ec) at g.exact in
-      let t = claims-tabled (sizes_only m q rb rf ns) (elements p) (elements d) (omega (arith, drawn, elements-length d))
-      (omega (arith, exact, elements-length p)) in
-      (sym h ∙ same-refusal, rw (← same-refusal, h, t, ← es, ← eb, ← ef, ← ec, ← en) (ap (λ (l : List ℕ). l ++ drop (2 * (s + n + length ns)) out) (sym ef₀ ∙ ap words e)))
+  claims-written e front need en lp whole ef =
+      changed out e (rw en (ap (λ (l : List ℕ). l ++ drop (2 * claim_count R) out)
+      (sym whole ∙ ap words (ef ∙ claims-are R (elements p) (elements d) (omega (arith, elements-length p))))))

@@ -13,21 +13,20 @@ use Rattle.magnetar_field.specs.Sizes.{log₂}
 use Rattle.magnetar_field.proofs.Log2.{log₂-pow}
 use Rattle.magnetar_sumcheck_verifier.specs.Inner.{inner_end}
 use Rattle.magnetar_matrix.specs.Batch.{Relation}
-use Rattle.magnetar_r1cs.proofs.Points.{log-most}
+use Rattle.magnetar_layout.proofs.SizeLaws.{log-most}
 use Rattle.magnetar_protocol.specs.Shape.{log_logins, log_bin, log_fld, log_cols, before_end, proof_elements}
 use Rattle.magnetar_protocol.specs.Proof.{part, terminals, inner_rounds, value_z, segment_values}
 use Rattle.magnetar_protocol.specs.Draws.{Draws, draws_of, low_point, top_element}
 use Rattle.magnetar_protocol.specs.Checks.{Check, round_holds, inner_claim, segment_sum, identity_check_at}
 use Rattle.magnetar_layout.specs.Tests.{Sized}
 use Rattle.magnetar_protocol.proofs.Phases.{Numbered, numbered-append, numbered-tabulate}
-use Rattle.magnetar_protocol.specs.declared.first.Found.{Found}
-use Rattle.magnetar_protocol.specs.Found.{first_found}
-use Rattle.magnetar_protocol.specs.Found.{check, nothing, next_found, after}
+use Rattle.magnetar_protocol.specs.declared.first.Failure.{Failure}
+use Rattle.magnetar_protocol.specs.Found.{Found, failed, first_found, check, nothing, next_found, after}
 use Rattle.magnetar_verifier.specs.Steps.{messages, round_checks}
 use Rattle.magnetar_verifier.specs.EndSteps.{identical, alphas_at, terminals_at, events_before, inner_draws, first_claim, last_claim, vz, low_draws, round_phase, end_phases}
 use Rattle.magnetar_verifier.specs.End.{end_checks}
 use Rattle.magnetar_verifier.proofs.Pieces.{part-get}
-use Rattle.magnetar_protocol.proofs.Finding.{after-append, after_two, finds}
+use Rattle.magnetar_protocol.proofs.Finding.{after_two, finds, found-front, found-late}
 use Rattle.magnetar_verifier.proofs.OuterPhases.{eqb_comm}
 
 -- ---- the columns
@@ -115,17 +114,25 @@ module _ (s b f c : ℕ) (ns w d : List ℕ) (v p : ℕ) where
   unfolding end_phases
   end-numbered = numbered-append (round_phase s b f c ns w d v p) _ rounds-numbered (lit< tt, (lit< tt, tt))
 
-  -- what the phases leave
-  pub end-done : (f₁ f₂ f₃ : Found) (claim : ℕ) (y z : Bool) → f₁ ≡ after nothing (round_phase s b f c ns w d v p)
-      → claim ≡ last_claim s b f c ns w d v p → y ≡ eqb (inner_end v (vz s b f c ns w d v p)) claim
-      → z ≡ identical (get_or d (alphas_at s b f c ns w d v p + 6 + (c - 1)) 0)
+  abbrev events : ℕ
+  events = events_before s b f c ns w d v p + 2 * c
+
+  abbrev identity : Bool
+  identity =
+      identical (get_or d (alphas_at s b f c ns w d v p + 6 + (c - 1)) 0)
       (segment_sum ns (low_draws s b f c ns w d v p) 0 (part (terminals_at s b f c ns w d v p + 6 + 3 * c + 1) (length ns) w)) p (vz s b f c ns w d v p)
-      → f₂ ≡ next_found f₁ (check 28 y (events_before s b f c ns w d v p + 2 * c))
-      → f₃ ≡ next_found f₂ (check 29 z (events_before s b f c ns w d v p + 2 * c + 1)) → f₃ ≡ after nothing (end_phases s b f c ns w d v p)
+
+  -- where the run stops: at a round, or behind them all
+  pub rounds-failed : (e : Failure) → failed e ≡ after nothing (round_phase s b f c ns w d v p) → failed e ≡ after nothing (end_phases s b f c ns w d v p)
   unfolding end_phases
-  end-done f₁ f₂ f₃ claim y z e₁ ec ey ez e₂ e₃ =
-      rw (e₃, e₂, e₁, ey, ez, ec)
-      (sym (after-append nothing (round_phase s b f c ns w d v p) _ ∙ after_two (after nothing (round_phase s b f c ns w d v p)) _ _))
+  rounds-failed e h = found-front (round_phase s b f c ns w d v p) _ e h
+
+  pub end-found : nothing ≡ after nothing (round_phase s b f c ns w d v p) → (claim : ℕ) (y : Bool) (g : Found) → claim ≡ last_claim s b f c ns w d v p
+      → y ≡ eqb (inner_end v (vz s b f c ns w d v p)) claim
+      → g ≡ next_found (next_found nothing (check 28 y events)) (check 29 identity (events + 1)) → g ≡ after nothing (end_phases s b f c ns w d v p)
+  unfolding end_phases
+  end-found h claim y g ec ey e =
+      found-late (round_phase s b f c ns w d v p) _ h (e ∙ rw (ey, ec) (sym (after_two nothing _ _)))
 
   pub end-finds : after nothing (end_phases s b f c ns w d v p) ≡ first_found (end_phases s b f c ns w d v p)
   end-finds = finds (end_phases s b f c ns w d v p) end-numbered

@@ -1,40 +1,54 @@
--- The tests on the numbers of words: what they leave.
+-- What the tests of a run leave, and what they answer.
 -- Assumes nothing.
-use mathlib.Core.Path.{◌≡◌, refl, sym, ◌∙◌}
-use mathlib.Core.Bool.{false}
-use Prim.Native.Nat.{ℕ, zero, suc, ◌*◌, ◌^◌, ◌≤◌, ◌<◌}
+use mathlib.Core.Path.{◌≡◌, ◌∙◌}
+use mathlib.Core.List.{List, ◌++◌}
+use Prim.Native.Nat.{ℕ, ◌*◌}
 use native.Mathlib.Omega.{arith}
-use lib.Dec.{eqb}
-use borrow.Author.Tests.{ltb-false, eqb-true, not-false}
-use Rattle.magnetar_field.specs.Sizes.{log₂}
-use Rattle.magnetar_field.proofs.Log2.{log₂-lt}
-use Rattle.magnetar_layout.specs.Tests.{or_refuse, first_refusal}
-use Rattle.magnetar_layout.proofs.FirstRefusal.{note-kept, first-refusal-clear}
-use Rattle.magnetar_protocol.specs.Shape.{proof_total}
+use lib.ListN.{length}
+use borrow.Author.Tests.{ne_eqb}
+use Rattle.std.specs.Prelude.{Result}
+use Rattle.std.specs.Result.{IsErrAnd}
+use Rattle.magnetar_field.specs.declared.refusal.Refusal.{Refusal}
+use Rattle.magnetar_field.specs.Number.{number}
+use Rattle.magnetar_layout.proofs.Refused.{number-positive}
+use Rattle.magnetar_protocol.specs.declared.first.Failure.{Failure}
+use Rattle.magnetar_protocol.specs.Found.{Found, found, unless_bad}
+use Rattle.magnetar_protocol.proofs.Finding.{handed-refusal}
+use Rattle.magnetar_layout.specs.Tests.{Tests, first_refusal}
+use Rattle.magnetar_protocol.specs.declared.rounds.Rounds.{Rounds}
+use Rattle.magnetar_protocol.specs.Rounds.{rounds_of, Few}
+use Rattle.magnetar_protocol.specs.Shape.{proof_total, sizes_only}
 use Rattle.magnetar_protocol.specs.Draws.{draw_total}
-use Rattle.magnetar_verifier.specs.Steps.{word_tests}
+use Rattle.magnetar_protocol.specs.RunTests.{outline_tests, draw_tests, proof_tests}
+use Rattle.magnetar_protocol.proofs.Guards.{outlined-given}
+use Rattle.magnetar_verifier.specs.EndSteps.{EndFits}
 
-pub log-small : (n k : ℕ) → k ≡ log₂ n → n < 2 ^ 64 → k < 64
-log-small n k e h = rw e (log₂-lt n h)
+-- the tests after those of the sizes and the segments
+abbrev pub words_tests : (m q b f : ℕ) → (ns proof draws : List ℕ) → Tests
+words_tests m q b f ns proof draws = draw_tests (sizes_only m q b f ns) draws ++ proof_tests (sizes_only m q b f ns) proof
 
--- a test that is not bad leaves an earlier number
-pub note-none : (n a : ℕ) → or_refuse n false a ≡ a
-unfolding or_refuse
-note-none n zero = refl
-note-none n (suc a) = note-kept n false (suc a) (λ h. omega arith)
+pub fits-given : (m q b f : ℕ) (ns : List ℕ) (proof draws : ℕ) (r : Rounds) → r ≡ rounds_of m q b f → Few r
+    → 0 ≡ first_refusal 0 (outline_tests m q b f ns) → draws ≡ 2 * draw_total r.shared r.bin r.fld r.inner
+    → proof ≡ 2 * proof_total r.shared r.bin r.fld r.inner (length ns) → EndFits m r.shared r.bin r.fld r.inner ns proof draws
+fits-given m q b f ns proof draws r e few h drawn exact =
+    let o = outlined-given m q b f ns h in
+    record {
+      columns = o.counts.columns;
+      logins = few.shared;
+      bin = few.bin;
+      fld = few.fld;
+      cols = rw e;
+      layout = o.layout;
+      few = o.few;
+      drawn = drawn;
+      exact = exact;
+    }
 
--- ---- 11, 15 and 16
-module _ (s b f c l proof draws wanted lent : ℕ) where
-  pub record Given : Type 0 where
-    pub drawn : draws ≡ 2 * draw_total s b f c
-    pub fits : wanted ≤ lent
-    pub exact : proof ≡ 2 * proof_total s b f c l
+-- ---- the answer, where a refusal stops the run before any event, and where none does
+pub bad-out : {A : Type 0} (r : Result A Failure) (e : Refusal) {n : ℕ} (f : Found) → IsErrAnd r (λ y. y ≡ record { check = e; events = 0 })
+    → number e ≡ n → found r ≡ unless_bad n f
+bad-out r e f h k =
+    let p = number-positive e in handed-refusal r e h ∙ rw (← k, ne_eqb (number e) 0 (λ (z : number e ≡ 0). omega arith))
 
-  pub given : (z : ℕ) → z ≡ first_refusal 0 (word_tests s b f c l proof draws wanted lent) → z ≡ 0 → Given
-  given z e h =
-      let k = (first-refusal-clear 0 (word_tests s b f c l proof draws wanted lent) refl (sym e ∙ h)).1 in
-      record {
-        drawn = eqb-true draws (2 * draw_total s b f c) (not-false (eqb draws (2 * draw_total s b f c)) k.0);
-        fits = ltb-false lent wanted k.1.0;
-        exact = eqb-true proof (2 * proof_total s b f c l) (not-false (eqb proof (2 * proof_total s b f c l)) k.1.1.0);
-      }
+pub good-out : {n : ℕ} {f g : Found} → 0 ≡ n → g ≡ f → g ≡ unless_bad n f
+good-out e h = rw (← e, h)

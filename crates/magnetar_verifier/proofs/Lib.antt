@@ -1,11 +1,9 @@
 pub mod Pieces
 pub mod RoundLaws
-pub mod Answers
 pub mod EqParts
 pub mod OuterPhases
 pub mod EqNumbers
 pub mod EndPhases
-pub mod EndGuard
-pub mod ClaimLaws
 pub mod Guards
-pub mod OuterAnswer
+pub mod Points
+pub mod ClaimLaws

@@ -20,12 +20,11 @@ use Rattle.magnetar_protocol.specs.Proof.{part, bin_messages, fld_messages, term
 use Rattle.magnetar_protocol.specs.Draws.{Draws, draw_count, draws_of, login_point}
 use Rattle.magnetar_protocol.specs.Checks.{Check, round_holds, shared_checks, row_checks, terminal_checks, bin_round, fld_round}
 use Rattle.magnetar_protocol.proofs.Phases.{Numbered, numbered-append, numbered-tabulate}
-use Rattle.magnetar_protocol.specs.declared.first.Found.{Found}
-use Rattle.magnetar_protocol.specs.Found.{first_found}
-use Rattle.magnetar_protocol.specs.Found.{check, nothing, next_found, after}
+use Rattle.magnetar_protocol.specs.declared.first.Failure.{Failure}
+use Rattle.magnetar_protocol.specs.Found.{Found, failed, first_found, check, nothing, after}
 use Rattle.magnetar_verifier.specs.Steps.{messages, round_checks, shared_bin, shared_fld, both_checks, terminal_holds, taus, shared_draws, bin_draws, fld_draws, bin_shared, fld_shared, bin_end, fld_end, shared_phase, bin_phase, fld_phase, terminal_phase, outer_phases}
 use Rattle.magnetar_verifier.specs.Outer.{outer_checks}
-use Rattle.magnetar_protocol.proofs.Finding.{after-append, after_two, finds}
+use Rattle.magnetar_protocol.proofs.Finding.{finds, found-front, found-late}
 use Rattle.magnetar_verifier.proofs.RoundLaws.{bin-length, fld-length}
 
 pub eqb_comm : (a b : ℕ) → eqb a b ≡ eqb b a
@@ -171,27 +170,6 @@ module _ (r : Relation) (w d : List ℕ) (long : draw_count r ≤ length d) wher
   unfolding outer_checks outer_phases
   outer-is = ap₂ ◌++◌ (shared-is 0 s (omega arith)) (ap₂ ◌++◌ rows_are terminals-are)
 
--- ---- what the phases leave, one after the other, is what all of them find
-module _ (s b f : ℕ) (w d : List ℕ) (f₁ f₂ f₃ f₄ : Found) (bin₁ fld₁ bin₂ fld₂ : ℕ) where
-  pub phases-done : f₁ ≡ after nothing (shared_phase s b f w d) → bin₁ ≡ bin_shared s b f w d → fld₁ ≡ fld_shared s b f w d
-      → f₂ ≡ after f₁ (round_checks 23 (taus s b f w d + 2 * s + 2) bin₁ (messages (8 * s) 4 b w) (bin_draws s b f w d) b)
-      → bin₂ ≡ running bin₁ (messages (8 * s) 4 b w) (bin_draws s b f w d)
-      → f₃ ≡ after f₂ (round_checks 24 (taus s b f w d + 2 * s + 2 * b + 2) fld₁ (messages (8 * s + 4 * b) 4 f w) (fld_draws s b f w d) f)
-      → fld₂ ≡ running fld₁ (messages (8 * s + 4 * b) 4 f w) (fld_draws s b f w d)
-      → f₄ ≡ next_found (next_found f₃ (check 25 (terminal_holds bin₂ (part 0 (s + b) d) (bin_draws s b f w d) (shared_draws s b f w d) w
-      (8 * s + 4 * b + 4 * f)) (taus s b f w d + 2 * s + 2 * b + 2 * f)))
-      (check 26 (terminal_holds fld₂ (part (s + b) (s + f) d) (fld_draws s b f w d) (shared_draws s b f w d) w (8 * s + 4 * b + 4 * f + 3))
-      (taus s b f w d + 2 * s + 2 * b + 2 * f))
-      → f₄ ≡ after nothing (outer_phases s b f w d)
-  unfolding outer_phases
-  phases-done e₁ p₁ q₁ e₂ p₂ e₃ q₂ e₄ =
-      rw (e₄, e₃, e₂, e₁, p₂, q₂, p₁, q₁)
-      (sym (after-append nothing (shared_phase s b f w d) ((bin_phase s b f w d ++ fld_phase s b f w d) ++ terminal_phase s b f w d)
-      ∙ after-append (after nothing (shared_phase s b f w d)) (bin_phase s b f w d ++ fld_phase s b f w d) (terminal_phase s b f w d)
-      ∙ ap (λ (g : Found). after g (terminal_phase s b f w d))
-      (after-append (after nothing (shared_phase s b f w d)) (bin_phase s b f w d) (fld_phase s b f w d))
-      ∙ after_two (after (after (after nothing (shared_phase s b f w d)) (bin_phase s b f w d)) (fld_phase s b f w d)) _ _))
-
 module _ (s b f : ℕ) (w d : List ℕ) where
   both-numbered : (i n : ℕ)
       → Numbered (both_checks (taus s b f w d) (shared_bin s w) (shared_fld s w) (shared_draws s b f w d) i n)
@@ -215,6 +193,39 @@ module _ (s b f : ℕ) (w d : List ℕ) where
       numbered-append (shared_phase s b f w d) ((bin_phase s b f w d ++ fld_phase s b f w d) ++ terminal_phase s b f w d) (both-numbered 0 s)
       (numbered-append (bin_phase s b f w d ++ fld_phase s b f w d) (terminal_phase s b f w d)
       (numbered-append (bin_phase s b f w d) (fld_phase s b f w d) bin-numbered fld-numbered) (lit< tt, (lit< tt, tt)))
+
+-- ---- where the run stops: at a check of the shared rounds, of the row rounds, or behind them
+module _ (s b f : ℕ) (w d : List ℕ) where
+  abbrev later : List Check
+  later = (bin_phase s b f w d ++ fld_phase s b f w d) ++ terminal_phase s b f w d
+
+  pub shared-failed : (e : Failure) → failed e ≡ after nothing (shared_phase s b f w d) → failed e ≡ after nothing (outer_phases s b f w d)
+  unfolding outer_phases
+  shared-failed e h = found-front (shared_phase s b f w d) later e h
+
+  module _ (shared : nothing ≡ after nothing (shared_phase s b f w d)) where
+    pub bin-failed : (e : Failure) → failed e ≡ after nothing (bin_phase s b f w d) → failed e ≡ after nothing (outer_phases s b f w d)
+    unfolding outer_phases
+    bin-failed e h =
+        found-late (shared_phase s b f w d) later shared
+        (found-front (bin_phase s b f w d ++ fld_phase s b f w d) (terminal_phase s b f w d) e
+        (found-front (bin_phase s b f w d) (fld_phase s b f w d) e h))
+
+    module _ (bin : nothing ≡ after nothing (bin_phase s b f w d)) where
+      pub fld-failed : (e : Failure) → failed e ≡ after nothing (fld_phase s b f w d) → failed e ≡ after nothing (outer_phases s b f w d)
+      unfolding outer_phases
+      fld-failed e h =
+          found-late (shared_phase s b f w d) later shared
+          (found-front (bin_phase s b f w d ++ fld_phase s b f w d) (terminal_phase s b f w d) e
+          (found-late (bin_phase s b f w d) (fld_phase s b f w d) bin h))
+
+      pub terminals-found : (fld : nothing ≡ after nothing (fld_phase s b f w d)) (g : Found) → g ≡ after nothing (terminal_phase s b f w d)
+          → g ≡ after nothing (outer_phases s b f w d)
+      unfolding outer_phases
+      terminals-found fld g h =
+          found-late (shared_phase s b f w d) later shared
+          (found-late (bin_phase s b f w d ++ fld_phase s b f w d) (terminal_phase s b f w d)
+          (found-late (bin_phase s b f w d) (fld_phase s b f w d) bin fld) h)
 
 -- what the phases find is what the definition says
 pub outer-found : (r : Relation) (w d : List ℕ) → draw_count r ≤ length d

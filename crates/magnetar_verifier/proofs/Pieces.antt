@@ -2,10 +2,11 @@
 -- Assumes nothing.
 use mathlib.Core.Path.{◌≡◌, refl, ap, ◌∙◌}
 use mathlib.Core.List.{List, [], ◌∷◌}
-use Prim.Native.Nat.{ℕ, zero, suc, ◌+◌, ◌-◌, ◌*◌, ◌^◌, ◌≤◌, ◌<◌}
+use Prim.Native.Nat.{ℕ, zero, suc, ◌+◌, ◌-◌, ◌*◌, ◌/◌, ◌^◌, ◌≤◌, ◌<◌}
 use native.Mathlib.Omega.{arith}
 use lib.ListN.{length, get_or, take, drop, length-drop}
 use lib.Seq.{get_or-take, get_or-drop, length-take-le}
+use Rattle.std.proofs.lemmas.List.{drop-take, take-take, drop-drop}
 use Rattle.magnetar_field.specs.Words.{elements}
 use Rattle.magnetar_field.proofs.Elements.{elements-length, elements-drop}
 use Rattle.magnetar_protocol.specs.Proof.{part}
@@ -31,6 +32,17 @@ part-get i n j s h = get_or-take n (drop i s) j 0 h ∙ get_or-drop i s j 0
 
 pub part_length : (i n : ℕ) (s : List ℕ) → 2 * i + 2 * n ≤ length s → length (part i n (elements s)) ≡ n
 part_length i n s h = length-take-le n (drop i (elements s)) (rw (length-drop, elements-length) (omega arith))
+
+-- a part of a part
+pub part-part : (i n a k : ℕ) (w : List ℕ) → a + k ≤ n → part a k (part i n w) ≡ part (i + a) k w
+part-part i n a k w h =
+    let e : a + (n - a) ≡ n = omega arith in
+    ap (λ (l : List ℕ). take k l) (rw e at (drop-take a (n - a) (drop i w)))
+    ∙ take-take k (n - a) (drop a (drop i w)) (omega arith) ∙ ap (λ (l : List ℕ). take k l) (drop-drop a i w)
+
+-- half of the words of n elements
+pub half-of : {k : ℕ} (n : ℕ) → k ≡ 2 * n → k / 2 ≡ n
+half-of n e = omega arith
 
 -- the last of n messages of so many elements
 pub message-within : (i width n j : ℕ) → j < n → i + width * j + width ≤ i + width * n

@@ -8,8 +8,7 @@ use Rattle.magnetar_matrix.specs.Batch.{Relation}
 use Rattle.magnetar_protocol.specs.Draws.{Draws, draws_of}
 use Rattle.magnetar_protocol.specs.Shape.{sizes_only}
 use Rattle.magnetar_protocol.specs.Checks.{Check, inner_checks_at, identity_check_at}
-use Rattle.magnetar_protocol.specs.declared.first.Found.{Found}
-use Rattle.magnetar_protocol.specs.Found.{first_found, unless_bad}
+use Rattle.magnetar_protocol.specs.Found.{Found, first_found, unless_bad}
 use Rattle.magnetar_verifier.specs.Outer.{checks_refusal}
 
 -- the checks of the inner rounds, of the claim that they leave, and of v_z

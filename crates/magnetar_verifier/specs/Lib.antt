@@ -2,5 +2,4 @@ pub mod Steps
 pub mod Outer
 pub mod EndSteps
 pub mod End
-pub mod ClaimSteps
 pub mod Claims

@@ -9,8 +9,7 @@ use Rattle.magnetar_protocol.specs.Shape.{log_logins, sizes_only}
 use Rattle.magnetar_protocol.specs.Draws.{Draws, draws_of}
 use Rattle.magnetar_protocol.specs.RunTests.{outline_tests, draw_tests, proof_tests}
 use Rattle.magnetar_protocol.specs.Checks.{Check, shared_checks, row_checks, terminal_checks}
-use Rattle.magnetar_protocol.specs.declared.first.Found.{Found}
-use Rattle.magnetar_protocol.specs.Found.{first_found, unless_bad}
+use Rattle.magnetar_protocol.specs.Found.{Found, first_found, unless_bad}
 
 -- the checks 21 to 26
 unfoldable pub outer_checks : Relation → List ℕ → Draws → List Check

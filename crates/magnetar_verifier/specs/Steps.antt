@@ -1,22 +1,13 @@
 -- The rounds of one sum-check, and the outer checks phase by phase. Only the contracts of private functions speak of this.
 -- Assumes nothing.
-use Rattle.std.specs.Prelude.{Bool, not, List, [], ◌∷◌, ◌++◌, reverse, ℕ, zero, suc, ◌+◌, ◌*◌, eqb, get_or}
+use Rattle.std.specs.Prelude.{Bool, List, [], ◌∷◌, ◌++◌, reverse, ℕ, zero, suc, ◌+◌, ◌*◌, eqb, get_or}
 use Rattle.magnetar_field.specs.Tabulate.{tabulate}
 use Rattle.magnetar_sumcheck_verifier.specs.Round.{running}
 use Rattle.magnetar_sumcheck_verifier.specs.Order.{eq_points}
 use Rattle.magnetar_sumcheck_verifier.specs.Outer.{outer_end}
-use Rattle.magnetar_layout.specs.Tests.{Tests, length_test_of, room_test_of}
-use Rattle.magnetar_protocol.specs.Shape.{proof_total}
-use Rattle.magnetar_protocol.specs.Draws.{draw_total}
 use Rattle.magnetar_protocol.specs.Proof.{part}
 use Rattle.magnetar_protocol.specs.Checks.{Check, round_holds}
 use Rattle.magnetar_protocol.specs.Found.{check}
-
--- ---- with the logarithms s, b, f, c of the logins, the rows of bin and fld, and the columns
--- 11, 15 and 16 by the numbers of words, with l segments, and so many words lent where `wanted` are asked for
-abbrev pub word_tests : (s b f c l proof draws wanted lent : ℕ) → Tests
-word_tests s b f c l proof draws wanted lent =
-    length_test_of (2 * draw_total s b f c) draws ++ (room_test_of wanted lent ++ ((16, not (eqb proof (2 * proof_total s b f c l))) ∷ []))
 
 -- ---- the rounds of one sum-check
 -- n messages of so many elements, one behind the other from place i on

@@ -1,100 +1,42 @@
 // The claims that an accepted run leaves: r_inst, r_low, and the segment values.
-ghost use Rattle.std.specs.Prelude.{◌≡◌, ◌+◌, ◌-◌, ◌*◌, ◌<◌, ◌≤◌, length};
-ghost use Rattle.magnetar_field.specs.Gf128.{value};
-ghost use Rattle.magnetar_field.specs.Tabulate.{tabulate};
+ghost use Rattle.std.specs.Prelude.{◌≡◌, ◌++◌, reverse, ◌+◌, ◌-◌, ◌*◌, ◌%◌, ◌≤◌, length};
+ghost use Rattle.magnetar_field.specs.Number.{number_of};
 ghost use Rattle.magnetar_field.specs.Words.{elements};
-ghost use Rattle.magnetar_verifier.specs.ClaimSteps.{claim_at};
+ghost use Rattle.magnetar_protocol.specs.Proof.{part};
+ghost use Rattle.magnetar_protocol.specs.Rounds.{Few};
 ghost use Rattle.magnetar_verifier.specs.Claims.{claims_refusal, claims_out};
 
-use crate::found;
-use magnetar_field::gf128::Gf128;
-use magnetar_field::{sizes, words};
+use crate::found::piece;
+use magnetar_field::refusal::{Refusal, require};
+use magnetar_field::words;
 use magnetar_protocol::refusal;
+use magnetar_protocol::rounds::Rounds;
 
-// Claim i: of s shared challenges from place k of the draws on, the last one first; then the n low ones from place j on; then the
-// segment values from place v of the proof on.
-fn claim(
-    s: usize,
-    n: usize,
-    k: usize,
-    j: usize,
-    v: usize,
-    proof: &[u64],
-    draws: &[u64],
-    i: usize,
-) -> Gf128
-    requires { (s < 64) × (n < 64) × (k ≤ 4096) × (j ≤ 4096) × (v ≤ 4096) × (i ≤ 4096) }
-    ensures { value result ≡ claim_at s n k j v (elements proof.now) (elements draws.now) i }
+// Writes the elements of s, the last one first.
+pub fn reversed(out: &mut [u64], s: &[u64])
+    requires { (length out.old ≡ length s.now) × (length s.now % 2 ≡ 0) }
+    ensures { elements out.new ≡ reverse (elements s.now) }
 {
-    if i < s {
-        return words::get(draws, k + (s - 1 - i));
-    }
-    if i < s + n {
-        return words::get(draws, j + (i - s));
-    }
-    words::get(proof, v + (i - (s + n)))
-}
-
-// Fills out with its claims.
-fn fill(
-    out: &mut [u64],
-    s: usize,
-    n: usize,
-    k: usize,
-    j: usize,
-    v: usize,
-    proof: &[u64],
-    draws: &[u64],
-    count: usize,
-)
-    requires { (s < 64) × (n < 64) × (k ≤ 4096) × (j ≤ 4096) × (v ≤ 4096) × (count ≤ 4096) × (length out.old ≡ 2 * count) }
-    ensures { elements out.new ≡ tabulate (claim_at s n k j v (elements proof.now) (elements draws.now)) count }
-{
-    let mut i = 0;
-    while i < count {
-        words::put(out, i, claim(s, n, k, j, v, proof, draws, i));
-        i += 1;
+    let n = s.len() / 2;
+    for i in 0..n {
+        words::put(out, i, words::get(s, n - 1 - i));
     }
 }
 
-// How many words the claims are.
-fn claim_words(s: usize, n: usize, l: usize) -> usize
-    requires { (s < 64) × (n < 64) × (l ≤ 64) }
-    ensures { result ≡ 2 * (s + n + l) }
+// Writes all claims, with l segment values.
+fn write_in(out: &mut [u64], proof: &[u64], draws: &[u64], r: Rounds, l: usize)
+    requires few { Few r }
+    requires room { length out.old ≡ 2 * (r.shared + (r.inner - 1) + l) }
+    requires sent { 2 * (8 * r.shared + 4 * r.bin + 4 * r.fld + 6 + 3 * r.inner + 1 + l) ≤ length proof.now }
+    requires drawn { 2 * (r.shared + r.bin + (r.shared + r.fld) + r.shared + r.bin + r.fld + 6 + r.inner) ≤ length draws.now }
+    ensures { let s = r.shared in let b = r.bin in let f = r.fld in let c = r.inner in elements out.new ≡ reverse (part (s + b + (s + f)) s (elements draws.now)) ++ (part (s + b + (s + f) + s + b + f + 6) (c - 1) (elements draws.now) ++ part (8 * s + 4 * b + 4 * f + 6 + 3 * c + 1) l (elements proof.now)) }
 {
-    2 * (s + n + l)
-}
-
-// Writes all claims, with the logarithms s, b, f, c, and n low ones.
-fn write_in(
-    out: &mut [u64],
-    proof: &[u64],
-    draws: &[u64],
-    s: usize,
-    b: usize,
-    f: usize,
-    c: usize,
-    n: usize,
-    l: usize,
-)
-    requires { (s < 64) × (b < 64) × (f < 64) × (c < 64) × (n < 64) × (l ≤ 64) × (length out.old ≡ 2 * (s + n + l)) }
-    ensures { elements out.new ≡ tabulate (claim_at s n (s + b + (s + f)) (s + b + (s + f) + s + b + f + 6) (8 * s + 4 * b + 4 * f + 6 + 3 * c + 1) (elements proof.now) (elements draws.now)) (s + n + l) }
-{
-    let k = s + b + (s + f);
-    let j = k + s + b + f + 6;
-    let v = 8 * s + 4 * b + 4 * f + 6 + 3 * c + 1;
-    let count = s + n + l;
-    fill(out, s, n, k, j, v, proof, draws, count);
-}
-
-// n - 1, or 0 where n is 0.
-fn less_one(n: usize) -> usize
-    ensures { result ≡ n - 1 }
-{
-    if n == 0 {
-        return 0;
-    }
-    n - 1
+    let n = r.inner.saturating_sub(1);
+    let a = 2 * r.shared;
+    let e = a + 2 * n;
+    reversed(&mut out[..a], piece(draws, r.taus(), r.shared));
+    out[a..e].copy_from_slice(piece(draws, r.alphas() + 6, n));
+    out[e..].copy_from_slice(piece(proof, r.end() + 1, l));
 }
 
 // Writes the claims of a run over q logins with m columns, rb rows of bin and rf rows of fld, and these segment lengths, as words at the
@@ -110,34 +52,19 @@ pub fn write_claims(
     proof: &[u64],
     draws: &[u64],
     claims: &mut [u64],
-) -> u32
-    ensures refusal { result ≡ claims_refusal m q rb rf lens.now proof.now draws.now claims.old }
+) -> Result<(), Refusal>
+    ensures refusal { number_of result ≡ claims_refusal m q rb rf lens.now proof.now draws.now claims.old }
     ensures written { claims.new ≡ claims_out m q rb rf lens.now proof.now draws.now claims.old }
 {
-    let y = refusal::outline_refusal(m, q, rb, rf, lens);
-    if y != 0 {
-        return y;
-    }
-    let s = sizes::log2(q);
-    let b = sizes::log2(rb);
-    let f = sizes::log2(rf);
-    let c = sizes::log2(m);
-    let n = less_one(c);
-    let need = claim_words(s, n, lens.len());
-    let z = found::words_refusal(
-        s,
-        b,
-        f,
-        c,
-        lens.len(),
-        proof.len(),
-        draws.len(),
-        need,
-        claims.len(),
-    );
-    if z != 0 {
-        return z;
-    }
-    write_in(&mut claims[..need], proof, draws, s, b, f, c, n, lens.len());
-    0
+    refusal::outline_refusal(m, q, rb, rf, lens)?;
+    let r = Rounds::of(m, q, rb, rf);
+    let need = r.claim_words(lens.len());
+    require(draws.len() == r.draw_words(), Refusal::Length)?;
+    require(need <= claims.len(), Refusal::Room)?;
+    require(
+        proof.len() == r.proof_words(lens.len()),
+        Refusal::ProofWords,
+    )?;
+    write_in(&mut claims[..need], proof, draws, r, lens.len());
+    Ok(())
 }

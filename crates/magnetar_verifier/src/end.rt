@@ -1,5 +1,5 @@
 // The checks after the alphas: 27 of the inner rounds, 28 of the claim that they leave, 29 of v_z.
-ghost use Rattle.std.specs.Prelude.{◌≡◌, [], ◌+◌, ◌-◌, ◌*◌, ◌/◌, ◌%◌, ◌<◌, ◌≤◌, length, get_or, drop};
+ghost use Rattle.std.specs.Prelude.{◌≡◌, [], ◌+◌, ◌-◌, ◌*◌, ◌/◌, ◌%◌, ◌<◌, ◌≤◌, length, get_or, drop, IfOk};
 ghost use Rattle.magnetar_field.specs.Gf128.{value, ◌⊕◌, ◌⊗◌};
 ghost use Rattle.magnetar_field.specs.Sizes.{log₂};
 ghost use Rattle.magnetar_multilinear.specs.EqTable.{eq_at};
@@ -7,17 +7,19 @@ ghost use Rattle.magnetar_field.specs.Words.{elements};
 ghost use Rattle.magnetar_layout.specs.Layout.{LayoutFits};
 ghost use Rattle.magnetar_protocol.specs.Checks.{segment_sum};
 ghost use Rattle.magnetar_protocol.specs.Proof.{part};
-ghost use Rattle.magnetar_protocol.specs.Found.{nothing, after};
+ghost use Rattle.magnetar_protocol.specs.Rounds.{Few};
+ghost use Rattle.magnetar_protocol.specs.Found.{nothing, found, after};
 ghost use Rattle.magnetar_verifier.specs.EndSteps.{identical, round_phase, last_claim, low_draws, vz, alphas_at, terminals_at, end_phases, EndFits};
 ghost use Rattle.magnetar_verifier.specs.End.{end_found};
 
-use crate::found;
-use crate::found::Run;
-use magnetar_field::gf128::Gf128;
-use magnetar_field::{gf128, sizes, words};
+use crate::found::{pass, piece, rounds};
+use crate::outer::sized;
+use magnetar_field::gf128::{self, Gf128, ONE, ZERO};
+use magnetar_field::refusal::Refusal;
+use magnetar_field::{sizes, words};
 use magnetar_multilinear::{eq, multilinear};
-use magnetar_protocol::first::Found;
-use magnetar_protocol::refusal;
+use magnetar_protocol::first::Failure;
+use magnetar_protocol::rounds::Rounds;
 use magnetar_sumcheck_verifier::verify;
 
 // ---- eq at a number, and the segment values.
@@ -26,13 +28,11 @@ use magnetar_sumcheck_verifier::verify;
 fn eq_number(point: &[u64], k: usize) -> Gf128
     ensures { value result ≡ eq_at (elements point.now) k }
 {
-    let mut acc = gf128::ONE;
+    let mut acc = ONE;
     let mut rest = k;
-    let mut j = 0;
-    while j < point.len() / 2 {
+    for j in 0..point.len() / 2 {
         acc = gf128::mul(acc, eq::eq_char2(words::get(point, j), rest % 2 == 1));
-        rest = rest / 2;
-        j += 1;
+        rest /= 2;
     }
     acc
 }
@@ -53,15 +53,12 @@ fn segment_sum(w: usize, lens: &[usize], low: &[u64], values: &[u64]) -> Gf128
     requires low_len { (length low.now ≡ 2 * log₂ w) × (length values.now ≡ 2 * length lens.now) }
     ensures { value result ≡ segment_sum lens.now (elements low.now) 0 (elements values.now) }
 {
-    let mut acc = gf128::ZERO;
+    let mut acc = ZERO;
     let mut c = 0;
-    let mut i = 0;
-    while i < lens.len() {
-        let n = lens[i];
-        let k = (c + (n - 1)) / n;
-        acc = add_segment(acc, low, n, k, words::get(values, i));
-        c = k * n + n;
-        i += 1;
+    for (i, n) in lens.iter().enumerate() {
+        let k = (c + (*n - 1)) / *n;
+        acc = add_segment(acc, low, *n, k, words::get(values, i));
+        c = k * *n + *n;
     }
     acc
 }
@@ -72,25 +69,32 @@ fn segment_sum(w: usize, lens: &[usize], low: &[u64], values: &[u64]) -> Gf128
 fn is_identical(top: Gf128, a: Gf128, p: Gf128, v: Gf128) -> bool
     ensures { result ≡ identical (value top) (value a) (value p) (value v) }
 {
-    let x = gf128::mul(gf128::add(gf128::ONE, top), a);
+    let x = gf128::mul(gf128::add(ONE, top), a);
     let y = gf128::mul(top, p);
     gf128::equal(gf128::add(x, y), v)
 }
 
-// ---- The checks, with the logarithms s, b, f, c of the logins, the rows of bin and fld, and the columns.
+// ---- The checks.
 
 // The rounds of the inner sum-check: the first claim is the terminals, each times its alpha.
-fn inner_rounds(proof: &[u64], draws: &[u64], s: usize, b: usize, f: usize, c: usize) -> Run
-    requires { (s < 64) × (b < 64) × (f < 64) × (c < 64) × (2 * (8 * s + 4 * b + 4 * f + 6 + 3 * c) ≤ length proof.now) × (2 * (s + b + (s + f) + s + b + f + 6 + c) ≤ length draws.now) }
-    ensures found { result.found ≡ after nothing (round_phase s b f c [] (elements proof.now) (elements draws.now) 0 0) }
-    ensures claim { value result.claim ≡ last_claim s b f c [] (elements proof.now) (elements draws.now) 0 0 }
+fn inner_rounds(proof: &[u64], draws: &[u64], r: Rounds) -> Result<Gf128, Failure>
+    requires few { Few r }
+    requires sent { 2 * (8 * r.shared + 4 * r.bin + 4 * r.fld + 6 + 3 * r.inner) ≤ length proof.now }
+    requires drawn { 2 * (r.shared + r.bin + (r.shared + r.fld) + r.shared + r.bin + r.fld + 6 + r.inner) ≤ length draws.now }
+    ensures found { found result ≡ after nothing (round_phase r.shared r.bin r.fld r.inner [] (elements proof.now) (elements draws.now) 0 0) }
+    ensures claim { IfOk result (λ c. value c ≡ last_claim r.shared r.bin r.fld r.inner [] (elements proof.now) (elements draws.now) 0 0) }
 {
-    let k = s + b + (s + f) + s + b + f;
-    let i = 8 * s + 4 * b + 4 * f;
-    let events = s + b + (s + f) + 2 * s + 2 * b + 2 * f + 12;
-    let claim = multilinear::dot(found::piece(draws, k, 6), found::piece(proof, i, 6));
-    let none = Found { code: 0, events: 0 };
-    found::rounds(none, claim, proof, draws, i + 6, 3, k + 6, c, 27, events)
+    let k = r.alphas();
+    let i = r.terminals();
+    let claim = multilinear::dot(piece(draws, k, 6), piece(proof, i, 6));
+    rounds(
+        claim,
+        piece(proof, i + 6, 3 * r.inner),
+        3,
+        piece(draws, k + 6, r.inner),
+        Refusal::InnerRound,
+        r.outer_events() + 12,
+    )
 }
 
 // v_z is (1 + top) times the segment sum plus top times p, the value of the public half.
@@ -100,23 +104,18 @@ fn identity_holds(
     p: Gf128,
     proof: &[u64],
     draws: &[u64],
-    s: usize,
-    b: usize,
-    f: usize,
-    c: usize,
+    r: Rounds,
 ) -> bool
-    requires { EndFits m s b f c lens.now (length proof.now) (length draws.now) }
-    ensures { result ≡ identical (get_or (elements draws.now) (alphas_at s b f c [] [] [] 0 0 + 6 + (c - 1)) 0) (segment_sum lens.now (low_draws s b f c [] [] (elements draws.now) 0 0) 0 (part (terminals_at s b f c [] [] [] 0 0 + 6 + 3 * c + 1) (length lens.now) (elements proof.now))) (value p) (vz s b f c [] (elements proof.now) [] 0 0) }
+    requires few { Few r }
+    requires fits { EndFits m r.shared r.bin r.fld r.inner lens.now (length proof.now) (length draws.now) }
+    ensures { let s = r.shared in let b = r.bin in let f = r.fld in let c = r.inner in result ≡ identical (get_or (elements draws.now) (alphas_at s b f c [] [] [] 0 0 + 6 + (c - 1)) 0) (segment_sum lens.now (low_draws s b f c [] [] (elements draws.now) 0 0) 0 (part (terminals_at s b f c [] [] [] 0 0 + 6 + 3 * c + 1) (length lens.now) (elements proof.now))) (value p) (vz s b f c [] (elements proof.now) [] 0 0) }
 {
-    let k = s + b + (s + f) + s + b + f + 6;
-    let i = 8 * s + 4 * b + 4 * f + 6 + 3 * c;
-    let n = c - 1;
-    let a = segment_sum(
-        m / 2,
-        lens,
-        found::piece(draws, k, n),
-        found::piece(proof, i + 1, lens.len()),
-    );
+    let k = r.alphas() + 6;
+    let i = r.end();
+    let n = r.inner - 1;
+    let low = piece(draws, k, n);
+    let values = piece(proof, i + 1, lens.len());
+    let a = segment_sum(m / 2, lens, low, values);
     is_identical(words::get(draws, k + n), a, p, words::get(proof, i))
 }
 
@@ -128,21 +127,18 @@ fn end_phases(
     draws: &[u64],
     v: Gf128,
     p: Gf128,
-    s: usize,
-    b: usize,
-    f: usize,
-    c: usize,
-) -> Found
-    requires { EndFits m s b f c lens.now (length proof.now) (length draws.now) }
-    ensures { result ≡ after nothing (end_phases s b f c lens.now (elements proof.now) (elements draws.now) (value v) (value p)) }
+    r: Rounds,
+) -> Result<(), Failure>
+    requires few { Few r }
+    requires fits { EndFits m r.shared r.bin r.fld r.inner lens.now (length proof.now) (length draws.now) }
+    ensures { found result ≡ after nothing (end_phases r.shared r.bin r.fld r.inner lens.now (elements proof.now) (elements draws.now) (value v) (value p)) }
 {
-    let i = 8 * s + 4 * b + 4 * f + 6 + 3 * c;
-    let events = s + b + (s + f) + 2 * s + 2 * b + 2 * f + 12 + 2 * c;
-    let run = inner_rounds(proof, draws, s, b, f, c);
-    let y = verify::inner_finish(run.claim, v, words::get(proof, i));
-    let g = found::refuse(run.found, 28, y, events);
-    let z = identity_holds(m, lens, p, proof, draws, s, b, f, c);
-    found::refuse(g, 29, z, events + 1)
+    let events = r.outer_events() + 12 + 2 * r.inner;
+    let claim = inner_rounds(proof, draws, r)?;
+    let y = verify::inner_finish(claim, v, words::get(proof, r.end()));
+    pass(y, Refusal::InnerTerminal, events)?;
+    let z = identity_holds(m, lens, p, proof, draws, r);
+    pass(z, Refusal::SegmentIdentity, events + 1)
 }
 
 // The checks 27 to 29 of a run over q logins with m columns, rb rows of bin and rf rows of fld, and these segment lengths, with the value v
@@ -160,20 +156,9 @@ pub fn end_checks(
     draws: &[u64],
     v: Gf128,
     p: Gf128,
-) -> Found
-    ensures { result ≡ end_found m q rb rf lens.now proof.now draws.now (value v) (value p) }
+) -> Result<(), Failure>
+    ensures { found result ≡ end_found m q rb rf lens.now proof.now draws.now (value v) (value p) }
 {
-    let y = refusal::outline_refusal(m, q, rb, rf, lens);
-    if y != 0 {
-        return Found { code: y, events: 0 };
-    }
-    let a = sizes::log2(q);
-    let b = sizes::log2(rb);
-    let f = sizes::log2(rf);
-    let c = sizes::log2(m);
-    let z = found::words_refusal(a, b, f, c, lens.len(), proof.len(), draws.len(), 0, 0);
-    if z != 0 {
-        return Found { code: z, events: 0 };
-    }
-    end_phases(m, lens, proof, draws, v, p, a, b, f, c)
+    let r = sized(m, q, rb, rf, lens, proof, draws)?;
+    end_phases(m, lens, proof, draws, v, p, r)
 }

@@ -1,86 +1,81 @@
 // The checks of the outer sum-checks: 21 and 22 of the shared rounds, 23 and 24 of the row rounds, 25 and 26 of the terminals.
-ghost use Rattle.std.specs.Prelude.{◌≡◌, reverse, ◌++◌, suc, ◌+◌, ◌*◌, ◌%◌, ◌<◌, ◌≤◌, length, get_or};
+ghost use Rattle.std.specs.Prelude.{◌≡◌, reverse, ◌++◌, suc, ◌+◌, ◌*◌, ◌/◌, ◌%◌, ◌<◌, ◌≤◌, length, get_or, IfOk};
 ghost use Rattle.magnetar_field.specs.Gf128.{value};
+ghost use Rattle.magnetar_field.specs.Number.{number_of};
 ghost use Rattle.magnetar_field.specs.Polynomial.{eval};
 ghost use Rattle.magnetar_field.specs.Words.{elements};
 ghost use Rattle.magnetar_sumcheck_verifier.specs.Round.{holds, running};
 ghost use Rattle.magnetar_sumcheck_verifier.specs.Order.{eq_points, point};
 ghost use Rattle.magnetar_protocol.specs.Proof.{part};
-ghost use Rattle.magnetar_protocol.specs.Found.{check, nothing, next_found, after};
+ghost use Rattle.magnetar_protocol.specs.Rounds.{rounds_of, Few};
+ghost use Rattle.magnetar_protocol.specs.Shape.{sizes_only};
+ghost use Rattle.magnetar_protocol.specs.Found.{check, nothing, found, next_found, after};
 ghost use Rattle.magnetar_verifier.specs.Steps.{shared_bin, shared_fld, both_checks, terminal_holds, outer_phases};
-ghost use Rattle.magnetar_verifier.specs.Outer.{outer_found};
+ghost use Rattle.magnetar_verifier.specs.Outer.{checks_refusal, outer_found};
+ghost use Rattle.magnetar_verifier.specs.EndSteps.{EndFits};
 
-use crate::found;
-use magnetar_field::gf128::{Evaluated, Gf128};
-use magnetar_field::{gf128, sizes, words};
-use magnetar_protocol::first::Found;
+use crate::found::{pass, piece, round, rounds};
+use magnetar_field::gf128::{self, Gf128, ZERO};
+use magnetar_field::refusal::{Refusal, require};
+use magnetar_field::words;
+use magnetar_protocol::first::Failure;
 use magnetar_protocol::refusal;
+use magnetar_protocol::rounds::Rounds;
 use magnetar_sumcheck_prover::public;
 use magnetar_sumcheck_verifier::verify;
 
-// What was found, and the running claims of both systems.
+// The running claims of both systems.
 #[derive(Clone, Copy)]
 struct Both {
-    found: Found,
     bin: Gf128,
     fld: Gf128,
 }
 
-// Shared round j, bin before fld: their messages stand side by side, and the challenge is draw k + j.
-fn shared_round(both: Both, proof: &[u64], draws: &[u64], k: usize, j: usize) -> Both
-    requires { (j < 64) × (k ≤ 4096) × (16 * j + 16 ≤ length proof.now) }
-    ensures found { result.found ≡ next_found (next_found both.found (check 21 (holds (part (8 * j) 4 (elements proof.now)) (value both.bin)) (k + 2 * suc j))) (check 22 (holds (part (8 * j + 4) 4 (elements proof.now)) (value both.fld)) (k + 2 * suc j)) }
-    ensures bin { value result.bin ≡ eval (part (8 * j) 4 (elements proof.now)) (get_or (elements draws.now) (k + j) 0) }
-    ensures fld { value result.fld ≡ eval (part (8 * j + 4) 4 (elements proof.now)) (get_or (elements draws.now) (k + j) 0) }
+// Shared round j with the challenge r, bin before fld: their messages stand side by side.
+fn shared_round(
+    both: Both,
+    proof: &[u64],
+    r: Gf128,
+    j: usize,
+    events: usize,
+) -> Result<Both, Failure>
+    requires { (j < 64) × (16 * j + 16 ≤ length proof.now) }
+    ensures found { found result ≡ next_found (next_found nothing (check 21 (holds (part (8 * j) 4 (elements proof.now)) (value both.bin)) events)) (check 22 (holds (part (8 * j + 4) 4 (elements proof.now)) (value both.fld)) events) }
+    ensures claims { IfOk result (λ c. (value c.bin ≡ eval (part (8 * j) 4 (elements proof.now)) (value r)) × (value c.fld ≡ eval (part (8 * j + 4) 4 (elements proof.now)) (value r))) }
 {
-    let r = words::get(draws, k + j);
-    let events = k + 2 * (j + 1);
-    let bin = found::round(
-        both.found,
+    let bin = round(
         both.bin,
-        found::piece(proof, 8 * j, 4),
+        piece(proof, 8 * j, 4),
         4,
         r,
-        21,
+        Refusal::SharedBin,
         events,
-    );
-    let fld = found::round(
-        bin.found,
+    )?;
+    let fld = round(
         both.fld,
-        found::piece(proof, 8 * j + 4, 4),
+        piece(proof, 8 * j + 4, 4),
         4,
         r,
-        22,
+        Refusal::SharedFld,
         events,
-    );
-    let f = fld.found;
-    let a = bin.claim;
-    let b = fld.claim;
-    Both {
-        found: f,
-        bin: a,
-        fld: b,
-    }
+    )?;
+    Ok(Both { bin: bin, fld: fld })
 }
 
-// The s shared rounds.
-fn shared_rounds(proof: &[u64], draws: &[u64], k: usize, s: usize) -> Both
-    requires { (s ≤ 64) × (k ≤ 4096) × (16 * s ≤ length proof.now) × (2 * k + 2 * s ≤ length draws.now) }
-    ensures found { result.found ≡ after nothing (both_checks k (shared_bin s (elements proof.now)) (shared_fld s (elements proof.now)) (part k s (elements draws.now)) 0 s) }
-    ensures bin { value result.bin ≡ running 0 (shared_bin s (elements proof.now)) (part k s (elements draws.now)) }
-    ensures fld { value result.fld ≡ running 0 (shared_fld s (elements proof.now)) (part k s (elements draws.now)) }
+// The shared rounds, behind k events: the messages stand at the front of the proof.
+fn shared_rounds(proof: &[u64], challenges: &[u64], k: usize) -> Result<Both, Failure>
+    requires { let s = length challenges.now / 2 in (s ≤ 64) × (k ≤ 4096) × (16 * s ≤ length proof.now) }
+    ensures found { let s = length challenges.now / 2 in found result ≡ after nothing (both_checks k (shared_bin s (elements proof.now)) (shared_fld s (elements proof.now)) (elements challenges.now) 0 s) }
+    ensures claims { let s = length challenges.now / 2 in IfOk result (λ c. (value c.bin ≡ running 0 (shared_bin s (elements proof.now)) (elements challenges.now)) × (value c.fld ≡ running 0 (shared_fld s (elements proof.now)) (elements challenges.now))) }
 {
     let mut both = Both {
-        found: Found { code: 0, events: 0 },
-        bin: gf128::ZERO,
-        fld: gf128::ZERO,
+        bin: ZERO,
+        fld: ZERO,
     };
-    let mut j = 0;
-    while j < s {
-        both = shared_round(both, proof, draws, k, j);
-        j += 1;
+    for j in 0..challenges.len() / 2 {
+        both = shared_round(both, proof, words::get(challenges, j), j, k + 2 * (j + 1))?;
     }
-    both
+    Ok(both)
 }
 
 // eq of tau and a point of as many elements, given by challenges of which the first `high` are the highest variables.
@@ -88,11 +83,7 @@ fn eq_at(tau: &[u64], challenges: &[u64], high: usize) -> Gf128
     requires { (length tau.now % 2 ≡ 0) × (length challenges.now ≡ length tau.now) × (2 * high ≤ length tau.now) }
     ensures { value result ≡ eq_points (elements tau.now) (point high (elements challenges.now)) }
 {
-    let e = public::eq_points(tau, challenges, high);
-    match e {
-        Evaluated::Value(v) => v,
-        Evaluated::Refused(_) => gf128::ZERO,
-    }
+    public::eq_points(tau, challenges, high).unwrap_or(ZERO)
 }
 
 // eq of tau and the point of a system: its row challenges, then the shared ones reversed.
@@ -125,77 +116,88 @@ fn terminal_holds(
     verify::outer_finish(claim, e, a, b, c)
 }
 
-// Both terminals: the claims of bin and of fld, with the logarithms s, b, f.
-fn terminals(
-    f0: Found,
-    bin: Gf128,
-    fld: Gf128,
-    proof: &[u64],
-    draws: &[u64],
-    s: usize,
-    b: usize,
-    f: usize,
-) -> Found
-    requires { (s ≤ 64) × (b ≤ 64) × (f ≤ 64) × (2 * (s + b + (s + f) + s + b + f) ≤ length draws.now) }
-    ensures { result ≡ next_found (next_found f0 (check 25 (terminal_holds (value bin) (part 0 (s + b) (elements draws.now)) (part (s + b + (s + f) + s) b (elements draws.now)) (part (s + b + (s + f)) s (elements draws.now)) (elements proof.now) (8 * s + 4 * b + 4 * f)) (s + b + (s + f) + 2 * s + 2 * b + 2 * f))) (check 26 (terminal_holds (value fld) (part (s + b) (s + f) (elements draws.now)) (part (s + b + (s + f) + s + b) f (elements draws.now)) (part (s + b + (s + f)) s (elements draws.now)) (elements proof.now) (8 * s + 4 * b + 4 * f + 3)) (s + b + (s + f) + 2 * s + 2 * b + 2 * f)) }
+// Both terminals: the claims of bin and of fld.
+fn terminals(bin: Gf128, fld: Gf128, proof: &[u64], draws: &[u64], r: Rounds) -> Result<(), Failure>
+    requires few { Few r }
+    requires drawn { 2 * (r.shared + r.bin + (r.shared + r.fld) + r.shared + r.bin + r.fld) ≤ length draws.now }
+    ensures { let s = r.shared in let b = r.bin in let f = r.fld in found result ≡ next_found (next_found nothing (check 25 (terminal_holds (value bin) (part 0 (s + b) (elements draws.now)) (part (s + b + (s + f) + s) b (elements draws.now)) (part (s + b + (s + f)) s (elements draws.now)) (elements proof.now) (8 * s + 4 * b + 4 * f)) (s + b + (s + f) + 2 * s + 2 * b + 2 * f))) (check 26 (terminal_holds (value fld) (part (s + b) (s + f) (elements draws.now)) (part (s + b + (s + f) + s + b) f (elements draws.now)) (part (s + b + (s + f)) s (elements draws.now)) (elements proof.now) (8 * s + 4 * b + 4 * f + 3)) (s + b + (s + f) + 2 * s + 2 * b + 2 * f)) }
 {
-    let k = s + b + (s + f);
-    let i = 8 * s + 4 * b + 4 * f;
-    let events = k + 2 * s + 2 * b + 2 * f;
-    let shared = found::piece(draws, k, s);
+    let k = r.taus();
+    let i = r.terminals();
+    let shared = piece(draws, k, r.shared);
     let x = terminal_holds(
         bin,
-        found::piece(draws, 0, s + b),
-        found::piece(draws, k + s, b),
+        piece(draws, 0, r.shared + r.bin),
+        piece(draws, k + r.shared, r.bin),
         shared,
         proof,
         i,
     );
+    pass(x, Refusal::TerminalBin, r.outer_events())?;
     let y = terminal_holds(
         fld,
-        found::piece(draws, s + b, s + f),
-        found::piece(draws, k + s + b, f),
+        piece(draws, r.shared + r.bin, r.shared + r.fld),
+        piece(draws, k + r.shared + r.bin, r.fld),
         shared,
         proof,
         i + 3,
     );
-    let f1 = found::refuse(f0, 25, x, events);
-    found::refuse(f1, 26, y, events)
+    pass(y, Refusal::TerminalFld, r.outer_events())
 }
 
-// The checks of all phases, with the logarithms s, b, f.
-fn outer_phases(proof: &[u64], draws: &[u64], s: usize, b: usize, f: usize) -> Found
-    requires { (s ≤ 64) × (b ≤ 64) × (f ≤ 64) × (2 * (8 * s + 4 * b + 4 * f) ≤ length proof.now) × (2 * (s + b + (s + f) + s + b + f) ≤ length draws.now) }
-    ensures { result ≡ after nothing (outer_phases s b f (elements proof.now) (elements draws.now)) }
+// The checks of all phases.
+fn outer_phases(proof: &[u64], draws: &[u64], r: Rounds) -> Result<(), Failure>
+    requires few { Few r }
+    requires sent { 2 * (8 * r.shared + 4 * r.bin + 4 * r.fld) ≤ length proof.now }
+    requires drawn { 2 * (r.shared + r.bin + (r.shared + r.fld) + r.shared + r.bin + r.fld) ≤ length draws.now }
+    ensures { found result ≡ after nothing (outer_phases r.shared r.bin r.fld (elements proof.now) (elements draws.now)) }
 {
-    let k = s + b + (s + f);
-    let e = k + 2 * s;
-    let both = shared_rounds(proof, draws, k, s);
-    let bin = found::rounds(
-        both.found,
+    let k = r.taus();
+    let rows = k + r.shared;
+    let e = k + 2 * r.shared;
+    let both = shared_rounds(proof, piece(draws, k, r.shared), k)?;
+    let bin = rounds(
         both.bin,
-        proof,
-        draws,
-        8 * s,
+        piece(proof, 8 * r.shared, 4 * r.bin),
         4,
-        k + s,
-        b,
-        23,
+        piece(draws, rows, r.bin),
+        Refusal::RowBin,
         e + 2,
-    );
-    let fld = found::rounds(
-        bin.found,
+    )?;
+    let fld = rounds(
         both.fld,
-        proof,
-        draws,
-        8 * s + 4 * b,
+        piece(proof, 8 * r.shared + 4 * r.bin, 4 * r.fld),
         4,
-        k + s + b,
-        f,
-        24,
-        e + 2 * b + 2,
-    );
-    terminals(fld.found, bin.claim, fld.claim, proof, draws, s, b, f)
+        piece(draws, rows + r.bin, r.fld),
+        Refusal::RowFld,
+        e + 2 * r.bin + 2,
+    )?;
+    terminals(bin, fld, proof, draws, r)
+}
+
+// The rounds of a run with these sizes, segments, and words of a proof and of draws, unless a refusal stops it before any event.
+pub(crate) fn sized(
+    m: usize,
+    q: usize,
+    rb: usize,
+    rf: usize,
+    lens: &[usize],
+    proof: &[u64],
+    draws: &[u64],
+) -> Result<Rounds, Refusal>
+    ensures refusal { number_of result ≡ checks_refusal (sizes_only m q rb rf lens.now) proof.now draws.now }
+    ensures rounds { IfOk result (λ r. r ≡ rounds_of m q rb rf) }
+    ensures few { IfOk result (λ r. Few r) }
+    ensures fits { IfOk result (λ r. EndFits m r.shared r.bin r.fld r.inner lens.now (length proof.now) (length draws.now)) }
+{
+    refusal::outline_refusal(m, q, rb, rf, lens)?;
+    let r = Rounds::of(m, q, rb, rf);
+    require(draws.len() == r.draw_words(), Refusal::Length)?;
+    require(
+        proof.len() == r.proof_words(lens.len()),
+        Refusal::ProofWords,
+    )?;
+    Ok(r)
 }
 
 // The checks 21 to 26 of a run over q logins with m columns, rb rows of bin and rf rows of fld, and these segment lengths: the
@@ -210,20 +212,9 @@ pub fn outer_checks(
     lens: &[usize],
     proof: &[u64],
     draws: &[u64],
-) -> Found
-    ensures { result ≡ outer_found m q rb rf lens.now proof.now draws.now }
+) -> Result<(), Failure>
+    ensures { found result ≡ outer_found m q rb rf lens.now proof.now draws.now }
 {
-    let y = refusal::outline_refusal(m, q, rb, rf, lens);
-    if y != 0 {
-        return Found { code: y, events: 0 };
-    }
-    let s = sizes::log2(q);
-    let b = sizes::log2(rb);
-    let f = sizes::log2(rf);
-    let c = sizes::log2(m);
-    let z = found::words_refusal(s, b, f, c, lens.len(), proof.len(), draws.len(), 0, 0);
-    if z != 0 {
-        return Found { code: z, events: 0 };
-    }
-    outer_phases(proof, draws, s, b, f)
+    let r = sized(m, q, rb, rf, lens, proof, draws)?;
+    outer_phases(proof, draws, r)
 }
