@@ -8,14 +8,16 @@ use Prim.Native.Nat.{ℕ, suc, ◌+◌, ◌-◌, ◌*◌, ◌/◌, ◌%◌, ◌^
 use native.Mathlib.Nat.{suc-mul, le_refl, zero-mul}
 use native.Mathlib.Numerals.{add-one}
 use native.Mathlib.Omega.{arith}
-use lib.ListN.{length, get_or, set, take, drop, length-append, length-drop, drop_of_length-le, take-append-drop, get_or-append}
+use Rattle.std.specs.List.{copy_within}
+use Rattle.std.proofs.Math.Nat.{sub-zero}
+use lib.ListN.{length, get_or, take, drop, length-append, length-drop, drop_of_length-le, take-append-drop}
 use lib.Dec.{ltb}
 use borrow.Author.Tests.{ltb-true, ltb-false, le-leb, lt-leb}
-use lib.Seq.{take_at, drop_at, take_all, take-take, drop-drop, length-take-le, get_or-take, paste-suc}
+use lib.Seq.{take_at, drop_at, take_all, drop-drop, length-take-le}
 use borrow.Rule.Slice.PartMut.{put_mid}
 use Rattle.magnetar_field.specs.Gf128.{◌⊕◌}
 use Rattle.magnetar_field.specs.Tabulate.{tabulate}
-use Rattle.magnetar_field.specs.Words.{elements, words, overlaid}
+use Rattle.magnetar_field.specs.Words.{elements, words}
 use Rattle.magnetar_field.proofs.Elements.{words-elements, words_append, words-length}
 use Rattle.magnetar_field.proofs.Tabulation.{tabulate-length, tabulate-get, tabulate-of}
 use Rattle.magnetar_matrix.specs.Matrix.{Entry, row_total}
@@ -24,36 +26,6 @@ use Rattle.magnetar_matrix.specs.Sum.{blocks}
 use Rattle.magnetar_matrix.specs.Table.{raised, public_share, bit_share, login_total, login_block, public_rows, laid_behind}
 use Rattle.magnetar_matrix.proofs.TableLaws.{elements-words, raised-length, raised-get}
 use Rattle.magnetar_matrix.proofs.LoginParts.{part-ends, part-is}
-
--- ---- the copy
--- s with its first i words over those from m on
-abbrev pub carried_to : List ℕ → ℕ → ℕ → List ℕ
-carried_to s m i = take m s ++ take i s ++ drop (m + i) s
-
-module _ (s t : List ℕ) (m i : ℕ) (e : t ≡ carried_to s m i) (h : i < m) where
-  read-front : m ≤ length s → get_or t i 0 ≡ get_or s i 0
-  read-front l =
-      let b : i < length (take m s) = rw (length-take-le m s l) h in
-      let g : get_or (take m s ++ (take i s ++ drop (m + i) s)) i 0 ≡ get_or (take m s) i 0 = get_or-append (take m s) (take i s ++ drop (m + i) s) 0 i b in
-      rw (e, append_assoc) (g ∙ get_or-take m s i 0 h)
-
-  pub carry-more : m ≤ length s → m + i < length s → set t (m + i) (get_or t i 0) ≡ carried_to s m (i + 1)
-  carry-more l b = rw (read-front l, e, add-one) (paste-suc s m s i 0 b (omega arith))
-
-module _ (s t : List ℕ) (m i : ℕ) (e : t ≡ carried_to s m i) (l : m ≤ length s) where
-  pub carry-full : i ≡ m → m + i ≤ length s → t ≡ take m s ++ overlaid (take m s) (drop m s)
-  unfolding overlaid
-  carry-full h b =
-      let d : length (drop m s) ≡ length s - m = length-drop m s in
-      let k : length (take m s) ≡ m = length-take-le m s l in
-      rw (e, h, append_assoc, k, take_all (length (drop m s)) (take m s) (omega arith), drop-drop m m s)
-
-  pub carry-short : i < m → m + i ≡ length s → t ≡ take m s ++ overlaid (take m s) (drop m s)
-  unfolding overlaid
-  carry-short h b =
-      let d : length (drop m s) ≡ i = length-drop m s ∙ omega arith in
-      let k : length (take m s) ≡ m = length-take-le m s l in
-      rw (e, append_assoc, d, k, take-take i m s (omega arith), drop-drop m m s, drop_of_length-le s {i = m + i} (omega arith), drop_of_length-le s {i = m + m} (omega arith))
 
 -- ---- words by their elements
 pub kept-words : (v s t : List ℕ) → length s % 2 ≡ 0 → length t ≡ length s → elements t ≡ v → ((i : ℕ) → get_or t i 0 < 2 ^ 64) → t ≡ words v
@@ -76,14 +48,11 @@ module _ (p s : List ℕ) (m : ℕ) where
   unfolding laid_behind
   laid-some h = rw (le-leb (2 * m) (length s) h)
 
-  -- the front itself, carried
-  pub laid-front : 2 * m ≤ length s → take m s ≡ p → take m s ++ overlaid (take m s) (drop m s) ≡ take m s ++ laid_behind m p s
-  unfolding overlaid
-  laid-front h e =
-      let k : length (take m s) ≡ m = length-take-le m s (omega arith) in
-      let d : length (drop m s) ≡ length s - m = length-drop m s in
+  -- the front itself, copied behind itself
+  pub laid-copied : 2 * m ≤ length s → take m s ≡ p → copy_within s 0 m m ≡ take m s ++ laid_behind m p s
+  laid-copied h e =
       let t : m + m ≡ 2 * m = omega arith in
-      rw (laid-some h, take_all (length (drop m s)) (take m s) (omega arith), k, drop-drop m m s, t) (ap (λ (z : List ℕ). take m s ++ (z ++ drop (2 * m) s)) e)
+      rw (laid-some h, sub-zero, append_assoc, t) (ap (λ (z : List ℕ). take m s ++ (z ++ drop (2 * m) s)) e)
 
   -- p itself, put in its place
   pub laid-put : (n : ℕ) → n ≡ 2 * m → 2 * m ≤ length s → (t : List ℕ) → t ≡ p → put_mid m (n - m) s t ≡ take m s ++ laid_behind m p s

@@ -3,50 +3,21 @@
 use mathlib.Core.Path.{◌≡◌, refl, sym, ap, ◌∙◌}
 use mathlib.Core.Bool.{Bool, true, false, cond}
 use mathlib.Core.List.{List, [], ◌∷◌, map}
-use Prim.Native.Nat.{ℕ, zero, suc, ◌+◌, ◌≤◌, ◌<◌, suc-le-suc}
-use native.Mathlib.Nat.{le_of_suc-le-suc, le_trans, suc_inj}
-use native.Mathlib.Numerals.{add-one}
+use Prim.Native.Nat.{ℕ, ◌+◌, ◌<◌}
 use native.Mathlib.Omega.{arith}
 use lib.Dec.{eqb}
 use borrow.Author.Tests.{eqb-true, eqb-false}
-use lib.ListN.{length, get_or, drop, drop_of_length-le}
+use lib.ListN.{length, get_or, drop}
 use Rattle.magnetar_field.specs.Gf128.{◌⊕◌}
 use Rattle.magnetar_field.proofs.Xor.{⊕-zero, zero-⊕, ⊕-assoc}
 use Rattle.magnetar_matrix.specs.Matrix.{Entry, swapped, sum_over, row_total}
 use Rattle.magnetar_layout.specs.Every.{every}
 use Rattle.magnetar_layout.proofs.EveryLaws.{Left}
 use Rattle.magnetar_matrix.specs.Lent.{entry, entries_of}
-use Rattle.magnetar_matrix.specs.Table.{added_at, raised, Equal}
+use Rattle.magnetar_matrix.specs.Table.{added_at, raised}
 use Rattle.magnetar_matrix.proofs.TableLaws.{added-length, added-here, added-there, raised_is}
 
--- ---- the entries that four slices hold
-entry-at-suc : (r c l h : List ℕ) (i : ℕ) → length c ≡ length r → length l ≡ length r → length h ≡ length r → i < length r
-    → drop i (entries_of r c l h) ≡ entry (get_or r i 0) (get_or c i 0) (get_or l i 0) (get_or h i 0) ∷ drop (suc i) (entries_of r c l h)
-unfolding entries_of
-entry-at-suc [] c l h i ec el eh b = absurd (omega arith)
-entry-at-suc (x ∷ r) [] l h i ec el eh b = absurd (omega arith)
-entry-at-suc (x ∷ r) (y ∷ c) [] h i ec el eh b = absurd (omega arith)
-entry-at-suc (x ∷ r) (y ∷ c) (z ∷ l) [] i ec el eh b = absurd (omega arith)
-entry-at-suc (x ∷ r) (y ∷ c) (z ∷ l) (u ∷ h) zero ec el eh b = refl
-entry-at-suc (x ∷ r) (y ∷ c) (z ∷ l) (u ∷ h) (suc i) ec el eh b =
-    entry-at-suc r c l h i (suc_inj ec) (suc_inj el) (suc_inj eh) (le_of_suc-le-suc b)
-
-pub entry_at : (r c l h : List ℕ) (i : ℕ) → Equal r c l h → i < length r
-    → drop i (entries_of r c l h) ≡ entry (get_or r i 0) (get_or c i 0) (get_or l i 0) (get_or h i 0) ∷ drop (i + 1) (entries_of r c l h)
-entry_at r c l h i q b = rw add-one (entry-at-suc r c l h i q.col q.lo q.hi b)
-
-entries-short : (r c l h : List ℕ) → length (entries_of r c l h) ≤ length r
-unfolding entries_of
-entries-short [] c l h = omega arith
-entries-short (x ∷ r) [] l h = omega arith
-entries-short (x ∷ r) (y ∷ c) [] h = omega arith
-entries-short (x ∷ r) (y ∷ c) (z ∷ l) [] = omega arith
-entries-short (x ∷ r) (y ∷ c) (z ∷ l) (u ∷ h) = suc-le-suc (entries-short r c l h)
-
-pub entries-end : (r c l h : List ℕ) (i : ℕ) → length r ≤ i → drop i (entries_of r c l h) ≡ []
-entries-end r c l h i b = drop_of_length-le (entries_of r c l h) (le_trans (entries-short r c l h) b)
-
--- with rows and columns exchanged
+-- ---- with rows and columns exchanged
 pub entries-swapped : (r c l h : List ℕ) → entries_of c r l h ≡ map swapped (entries_of r c l h)
 unfolding entries_of
 entries-swapped [] [] l h = refl

@@ -9,13 +9,10 @@ pub fn repeats(s: &[u64], k: usize) -> bool
     if k > s.len() / 2 {
         return false;
     }
-    let mut i = 0;
-    while i < k {
-        let j = k + i;
-        if s[i] != s[j] {
+    for i in 0..k {
+        if s[i] != s[k + i] {
             return false;
         }
-        i += 1;
     }
     true
 }

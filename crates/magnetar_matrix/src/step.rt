@@ -8,11 +8,11 @@ use magnetar_field::gf128::Gf128;
 use magnetar_field::{gf128, words};
 
 // Adds e to the element at index k, where there is one.
+#[tactic(auto, unfolding(crate::specs::Table::added_in))]
 pub fn add_at(out: &mut [u64], k: usize, e: Gf128)
     ensures { out.new ≡ added_in out.old k (value e) }
 {
-    let v = words::get(out, k);
-    words::put(out, k, gf128::add(v, e));
+    words::put(out, k, words::get(out, k) + e);
 }
 
 // Adds the bits of a word to the word at index k, where there is one.
@@ -20,18 +20,16 @@ pub fn add_word(out: &mut [u64], k: usize, word: u64)
     ensures { out.new ≡ added_at out.old k word }
 {
     if k < out.len() {
-        out[k] = out[k] ^ word;
+        out[k] ^= word;
     }
 }
 
 // A word moved up by t bits, without those past its end.
+#[tactic(auto, using(crate::proofs::Digits::shift_past))]
 pub fn shifted(word: u64, t: usize) -> u64
     ensures { result ≡ word * 2 ^ t % 2 ^ 64 }
 {
-    if t < 64 {
-        return word << t;
-    }
-    0
+    if t < 64 { word << t } else { 0 }
 }
 
 // v times e, by a mask where v is 0 or 1.
@@ -39,9 +37,10 @@ pub fn scale(v: Gf128, e: Gf128) -> Gf128
     ensures { value result ≡ value v ⊗ value e }
 {
     if gf128::is_bit(v) {
-        return gf128::mul_bit(e, v);
+        gf128::mul_bit(e, v)
+    } else {
+        gf128::mul(v, e)
     }
-    gf128::mul(v, e)
 }
 
 // The bit at column c of a login's words, 0 where they have no such column.
@@ -51,7 +50,8 @@ pub fn bit_at(login: &[u64], c: usize) -> u64
 {
     let k = c / 64;
     if k < login.len() {
-        return (login[k] >> (c % 64)) % 2;
+        (login[k] >> (c % 64)) % 2
+    } else {
+        0
     }
-    0
 }

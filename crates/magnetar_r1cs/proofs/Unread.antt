@@ -1,23 +1,18 @@
--- A matrix without a column past w reads no public column: its public part is that of every login. The
--- public part of a login, carried on to the next one.
+-- A matrix without a column past w reads no public column: its public part is that of every login.
 -- Assumes nothing.
-use mathlib.Core.Path.{◌≡◌, refl, ap}
+use mathlib.Core.Path.{◌≡◌, refl}
 use mathlib.Core.Bool.{Bool, true, false}
-use mathlib.Core.List.{List, [], ◌∷◌, ◌++◌, append_assoc}
-use Prim.Native.Nat.{ℕ, ◌+◌, ◌-◌, ◌*◌, ◌≤◌}
-use Rattle.std.proofs.Math.Nat.{sub-zero}
+use mathlib.Core.List.{List, [], ◌∷◌}
+use Prim.Native.Nat.{ℕ, ◌-◌, ◌≤◌}
 use native.Mathlib.Omega.{arith}
 use lib.Dec.{ltb, leb}
-use lib.ListN.{length, take, drop}
-use Rattle.std.specs.List.{copy_within}
 use borrow.Author.Tests.{leb-true}
 use Rattle.magnetar_field.specs.Words.{words}
 use Rattle.magnetar_field.proofs.Tabulation.{tabulate-ext}
 use Rattle.magnetar_layout.specs.Every.{every}
 use Rattle.magnetar_layout.proofs.EveryLaws.{both}
 use Rattle.magnetar_matrix.specs.Matrix.{Entry, sum_over, row_total}
-use Rattle.magnetar_matrix.specs.Table.{public_share, public_rows, laid_behind}
-use Rattle.magnetar_matrix.proofs.Carried.{laid-some}
+use Rattle.magnetar_matrix.specs.Table.{public_share, public_rows}
 
 share-unread : (w : ℕ) (x y : List ℕ) (e : Entry) → e.col ≤ w → public_share w x e ≡ public_share w y e
 unfolding public_share
@@ -39,9 +34,3 @@ pub rows-unread : (w n : ℕ) (x y : List ℕ) (es : List Entry) → every (λ e
     → words (public_rows w x es n) ≡ words (public_rows w y es n)
 rows-unread w n x y es a =
     rw (tabulate-ext (row_total (public_share w x) es) (row_total (public_share w y) es) n (λ i _. row-unread w x y es i a))
-
--- the front itself, copied behind itself
-pub laid-copied : (p s : List ℕ) (m : ℕ) → 2 * m ≤ length s → take m s ≡ p → copy_within s 0 m m ≡ take m s ++ laid_behind m p s
-laid-copied p s m h e =
-    let t : m + m ≡ 2 * m = omega arith in
-    rw (laid-some p s m h, sub-zero, append_assoc, t) (ap (λ (z : List ℕ). take m s ++ (z ++ drop (2 * m) s)) e)

@@ -2,27 +2,22 @@ use mathlib.Core.Path.{◌≡◌, sym}
 use native.Mathlib.Numerals.{add-one}
 use native.Mathlib.Omega.{arith}
 use Rattle.magnetar_matrix.proofs.PublicParts.{agree-start, agree-more, repeated-some, repeated-short, repeated-not}
-use borrow.Author.Rules.{rules}
 use Rattle.magnetar_matrix.proofs.columns.repeats.Goals as goal
 
 pub returns-then-k-s : goal.returns-then-k-s
 returns-then-k-s c = sym (repeated-short _ _ (omega arith))
 
 pub loop-i-init : goal.loop-i-init
-loop-i-init c = (search rules, omega arith, agree-start _ _)
+loop-i-init c = agree-start _ _
 
 pub returns-then-s-i : goal.returns-then-s-i
-returns-then-s-i c =
-    let l = c.loop-i in
-    sym (repeated-not _ _ l.i l.invariant.1 (omega arith) c.if-s-i.true)
+returns-then-s-i c = sym (repeated-not _ _ c.loop-i.i (omega arith) (omega arith) c.if-s-i.true)
 
 pub loop-i-preserved : goal.loop-i-preserved
-loop-i-preserved c =
-    let l = c.loop-i in
-    (omega arith, l.invariant.1, rw add-one (agree-more _ _ l.i l.invariant.2 c.if-s-i.false))
+loop-i-preserved c = rw add-one (agree-more _ _ c.loop-i.i c.loop-i.invariant c.if-s-i.false)
 
 pub returns : goal.returns
 returns c =
     let l = c.loop-i in
     let e : l.i ≡ c.args.k = omega arith in
-    sym (repeated-some _ _ l.invariant.1 (rw e at l.invariant.2))
+    sym (repeated-some _ _ (omega arith) (rw e at l.invariant))

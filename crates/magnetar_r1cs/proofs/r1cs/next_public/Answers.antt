@@ -6,8 +6,8 @@ use Rattle.magnetar_field.specs.Words.{elements, words}
 use Rattle.magnetar_matrix.specs.Numbers.{entries_by}
 use Rattle.magnetar_matrix.specs.Table.{public_rows}
 use Rattle.magnetar_matrix.proofs.PublicParts.{repeated-is}
-use Rattle.magnetar_r1cs.proofs.Unread.{rows-unread, laid-copied}
-use Rattle.magnetar_matrix.proofs.Carried.{laid_none, laid-put, rows-put}
+use Rattle.magnetar_r1cs.proofs.Unread.{rows-unread}
+use Rattle.magnetar_matrix.proofs.Carried.{laid_none, laid-copied, laid-put, rows-put}
 use Rattle.magnetar_r1cs.proofs.r1cs.next_public.Goals as goal
 use Rattle.magnetar_r1cs.proofs.r1cs.next_public.Goals.{then-within-via-then-within, then-within-via-else-within+then-repeats}
 
