@@ -11,7 +11,7 @@ use lib.Bits.{bit_and}
 use lib.Count.{count_trailing_zeros}
 use lib.ListN.{length, get_or, drop, length-take}
 use borrow.Author.Tests.{eq-eqb, ne_eqb, ltb-true, ltb-false, lt-ltb, le-ltb, not-false}
-use Rattle.std.specs.Prelude.{Option, Some, None, Result, Ok, Err, unwrap_or}
+use Rattle.std.specs.Prelude.{Option, Result, Ok, Err}
 use Rattle.std.specs.Result.{IsErrAnd}
 use Rattle.magnetar_field.specs.declared.refusal.Refusal.{Refusal}
 use Rattle.magnetar_field.specs.Number.{number, number_of}
@@ -189,11 +189,6 @@ module _ (q w : ℕ) (ns ws ms : List ℕ) (mask : Masks w ns ms) where
   all-clear u e c =
       let n : q ≡ stray_login q w ns batch = first-end (λ v. eqb (stray_column w ns batch v) w) q u e c in
       rw (← n, eq-eqb q q refl)
-
--- nothing was found
-pub none-found : (r : Option ℕ) (w y : ℕ) → ((x : ℕ) → r ≡ Some x → ⊥) → unwrap_or r w ≡ y → w ≡ y
-none-found None w y n e = e
-none-found (Some x) w y n e = absurd (n x refl)
 
 -- ---- the entry
 module _ (q w : ℕ) (ns ws : List ℕ) where

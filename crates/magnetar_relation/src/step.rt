@@ -1,5 +1,4 @@
-// What one entry does to the words of a table, on numbers: the loops over number slices and the walks over records call the same steps.
-// Each is total: it leaves words that are too few as they are.
+// What one entry does to the words of a table, on numbers. Each step is total: it leaves words that are too few as they are.
 ghost use Rattle.std.specs.Prelude.{◌≡◌};
 ghost use Rattle.magnetar_field.specs.Gf128.{value};
 ghost use Rattle.magnetar_relation.specs.Steps.{cleared_to, added_to, front, between};

@@ -44,16 +44,14 @@ fn flip(mask: &mut [u64], y: usize, t: usize)
 
 // Flips the bits of n columns from o on, word by word.
 fn flip_run(mask: &mut [u64], o: usize, n: usize)
+    requires some { 0 < n }
     requires in_words { InWords o n }
     requires n_bound { (o + n ≤ 64 * length mask.old) × (o + n ≤ 65536) }
     ensures { Flipped o n mask.old mask.new }
 {
     let t = n.min(64);
-    let e = o + n;
-    let mut y = o;
-    while y < e {
+    for y in (o..o + n).step_by(t) {
         flip(mask, y, t);
-        y += t;
     }
 }
 

@@ -4,7 +4,7 @@ use lib.ListN.{length}
 use Rattle.magnetar_matrix.specs.Packed.{login_words}
 use Rattle.magnetar_matrix.proofs.LoginParts.{words-most}
 use Rattle.magnetar_matrix.proofs.FirstRow.{below-start, below_more}
-use Rattle.magnetar_relation.proofs.StrayLaws.{part_length, none-past, none-found, login-clear, login-stray, all-clear}
+use Rattle.magnetar_relation.proofs.StrayLaws.{part_length, none-past, login-clear, login-stray, all-clear}
 use Rattle.magnetar_relation.proofs.stray.first_login.Goals as goal
 
 pub loop-login-init : goal.loop-login-init
@@ -28,7 +28,7 @@ pub loop-login-preserved : goal.loop-login-preserved
 loop-login-preserved c =
     let x = c.args in
     let u = c.loop-login.login in
-    let e = none-found c.first_column.result x.w _ c.in_default.not-Some (rw c.part.ensures at c.first_column.ensures.first) in
+    let e = rw c.part.ensures at c.in_default.ensures.first in
     below_more _ u c.loop-login.invariant
     (login-clear x.q x.w x.lens.now x.packed.now x.mask.now c.requires.2 u x.w c.loop-login-test.true e (omega arith) (omega arith))
 

@@ -12,6 +12,7 @@ flip_run-requires c =
     let x = s.args in
     let f = sound x.w x.lens.now s.requires.lens_value in
     let l : length x.mask.now ≡ 512 = rw s.requires.mask_value (length-replicate {A = ℕ} 512 0) in record {
+      some = some-columns x.w x.lens.now s.requires.lens_value;
       in_words = all-in-words x.w x.lens.now f (some-columns x.w x.lens.now s.requires.lens_value);
       n_bound = (omega (arith, l, f.small), omega (arith, f.small));
     }

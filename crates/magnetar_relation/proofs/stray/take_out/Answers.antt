@@ -3,11 +3,10 @@ use native.Mathlib.Omega.{arith}
 use Rattle.magnetar_layout.proofs.Laid.{offset-within}
 use Rattle.magnetar_layout.proofs.Places.{placed}
 use Rattle.magnetar_relation.proofs.MaskLaws.{in_words, out-start, out-more, out-end, places-long, place_is}
-use borrow.Author.Rules.{rules}
 use Rattle.magnetar_relation.proofs.stray.take_out.Goals as goal
 
 pub loop-i-init : goal.loop-i-init
-loop-i-init c = (refl, out-start _ _ c.requires.layout_fits.0 _ c.requires.all_marked)
+loop-i-init c = out-start _ _ c.requires.layout_fits.0 _ c.requires.all_marked
 
 pub bounds-places-i : goal.bounds-places-i
 bounds-places-i c =
@@ -20,9 +19,11 @@ flip_run-requires c =
     let i = c.loop-i.i in
     let h = c.loop-i-test.true in
     let e = place_is x.w x.lens.now f.0 i x.places.now h f.1 in
-    let k = offset-within x.w x.lens.now i f.0 h in record {
-      in_words = rw e (in_words _ _ _ _ (placed x.w x.lens.now i f.0 h));
-      n_bound = (omega (arith, e, k, f.2, f.0.small, c.loop-i.invariant.0), omega (arith, e, k, f.0.small));
+    let k = offset-within x.w x.lens.now i f.0 h in
+    let p = placed x.w x.lens.now i f.0 h in record {
+      some = p.size.least;
+      in_words = rw e (in_words _ _ _ _ p);
+      n_bound = (omega (arith, e, k, f.2, f.0.small, c.loop-i.auto.mask), omega (arith, e, k, f.0.small));
     }
 
 pub loop-i-preserved : goal.loop-i-preserved
@@ -31,8 +32,8 @@ loop-i-preserved c =
     let l = c.loop-i in
     let h = c.loop-i-test.true in
     let e = place_is x.w x.lens.now c.requires.layout_fits.0 l.i x.places.now h c.requires.layout_fits.1 in
-    (search rules, out-more x.w x.lens.now c.requires.layout_fits.0 l.i _ _ _ _ h e refl l.invariant.1 c.flip_run.ensures)
+    out-more x.w x.lens.now c.requires.layout_fits.0 l.i _ _ _ _ h e refl l.invariant c.flip_run.ensures
 
 pub returns : goal.returns
 returns c =
-    out-end c.args.w c.args.lens.now c.requires.layout_fits.0 c.loop-i.i _ (omega (arith, c.loop-i-test.false)) c.loop-i.invariant.1
+    out-end c.args.w c.args.lens.now c.requires.layout_fits.0 c.loop-i.i _ (omega (arith, c.loop-i-test.false)) c.loop-i.invariant
