@@ -20,6 +20,7 @@ use Rattle.magnetar_layout.proofs.Readings.{log-le}
 use Rattle.magnetar_protocol.specs.RunTests.{counter_tests}
 use Rattle.magnetar_layout.proofs.Laid.{even-size, layout-own}
 use Rattle.magnetar_layout.proofs.Passing.{passing}
+use Rattle.magnetar_prover.proofs.Slots.{part_taken}
 use Rattle.magnetar_prover.specs.InScratch.{Locals}
 use Rattle.magnetar_prover.specs.Entries.{inner_rounds_refusal}
 
@@ -101,3 +102,19 @@ ready m ns k e z =
             record { most = y.most; power = y.power; few = omega (arith, a, b); drawn = omega (arith, b, e, l) };
       };
     }
+
+-- where nothing is refused: the room and the sizes
+module _ (m : ℕ) (ns proof draws s : List ℕ) (t : Transcript) (e : 0 ≡ inner_rounds_refusal m ns proof draws s t) where
+  pub sent_fits : 2 * (3 * log₂ m + 1 + length ns) ≤ length proof
+  sent_fits = (inner-fits m ns proof draws s t (sym e)).sent
+
+  pub drawn_fits : 2 * log₂ m ≤ length draws
+  drawn_fits = (inner-fits m ns proof draws s t (sym e)).drawn
+
+  pub scratch_fits : 6 * m ≤ length s
+  scratch_fits = (inner-fits m ns proof draws s t (sym e)).scratch
+
+  pub sizes_fit : (m ≤ 65536) × (log₂ m ≤ 16) × (length ns ≤ 64)
+  sizes_fit = let z = (inner-fits m ns proof draws s t (sym e)).sizes in (z.columns.high, z.few, z.segments)
+
+pub ruleset fitting = (part_taken, sent_fits, drawn_fits, scratch_fits, sizes_fit)

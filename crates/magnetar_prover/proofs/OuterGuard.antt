@@ -16,6 +16,7 @@ use Rattle.magnetar_layout.proofs.FirstRefusal.{first-refusal-clear}
 use Rattle.magnetar_layout.proofs.Passing.{passing}
 use Rattle.magnetar_layout.proofs.SizeLaws.{not-bad, log-most}
 use Rattle.magnetar_prover.specs.Whole.{Blocks}
+use Rattle.magnetar_prover.proofs.Slots.{part_taken}
 use Rattle.magnetar_protocol.specs.RunTests.{counter_tests}
 use Rattle.magnetar_prover.specs.Entries.{count_tests, total_tests, outer_drawn, outer_sent, block_words, outer_rounds_refusal}
 
@@ -92,6 +93,25 @@ bin_few {q} {rb} z = let h = log-most rb z.bin.high z.bin.power in omega (arith,
 
 pub fld_few : {q rb rf : ℕ} → Counts q rb rf → log₂ rf < 64
 fld_few {q} {rb} {rf} z = let h = log-most rf z.fld.high z.fld.power in omega (arith, h)
+
+-- where nothing is refused: the room, the sizes and their logarithms
+module _ (q rb rf : ℕ) (proof draws s : List ℕ) (t : Transcript) (e : 0 ≡ outer_rounds_refusal q rb rf proof draws s t) where
+  pub sent_fits : 2 * outer_sent (log₂ q) (log₂ rb) (log₂ rf) ≤ length proof
+  sent_fits = (outer-fits q rb rf proof draws s t (sym e)).sent
+
+  pub drawn_fits : 2 * outer_drawn (log₂ q) (log₂ rb) (log₂ rf) ≤ length draws
+  drawn_fits = (outer-fits q rb rf proof draws s t (sym e)).drawn
+
+  pub scratch_fits : block_words q rb rf ≤ length s
+  scratch_fits = (outer-fits q rb rf proof draws s t (sym e)).scratch
+
+  pub totals_fit : (q * rb ≤ 1048576) × (q * rf ≤ 1048576)
+  totals_fit = let z = (outer-fits q rb rf proof draws s t (sym e)).totals in (z.bin, z.fld)
+
+  pub logs_fit : (log₂ q < 64) × (log₂ rb < 64) × (log₂ rf < 64)
+  logs_fit = let z = (outer-fits q rb rf proof draws s t (sym e)).totals.counts in (logins-few z, bin_few z, fld_few z)
+
+pub ruleset fitting = (part_taken, sent_fits, drawn_fits, scratch_fits, totals_fit, logs_fit)
 
 most : (n k : ℕ) → n ≤ 1048576 → n ≡ 2 ^ k → k ≤ 20
 most n k h e = below k (λ b. omega (arith, h, e, pow_mono {i = 21} {j = k} b))

@@ -12,6 +12,10 @@ use borrow.Rule.Slice.PartMut.{put_mid, same_len_mid, mid_len, take_put, drop_pu
 pub part_length : (s : List ℕ) (a e : ℕ) → e ≤ length s → length (take (e - a) (drop a s)) ≡ e - a
 part_length s a e h = mid_len a e s h
 
+-- that of a front
+pub part_taken : (n : ℕ) (s : List ℕ) → n ≤ length s → length (take n s) ≡ n
+part_taken n s h = length-take-le n s h
+
 pub take-of-drop : (s : List ℕ) (a n k : ℕ) → a + n ≤ k → take n (drop a (take k s)) ≡ take n (drop a s)
 take-of-drop [] zero n k h = go n k
   where

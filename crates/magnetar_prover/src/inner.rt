@@ -238,7 +238,7 @@ fn run(
 // challenges those of draws. s has the combined table in its first 2m words and the folded z in the 2m words behind; its first 6m words
 // are left zero.
 // 1: no such columns; 8, 9, 10: no such layout; 14: a counter of 2^32 or more; 15: draws, proof or s too short.
-#[tactic(auto, using(crate::proofs::Handed::handed_back))]
+#[tactic(auto, using(crate::proofs::Handed::handed_back, crate::proofs::Guarded::fitting))]
 pub fn inner_rounds(
     m: usize,
     lens: &[usize],
