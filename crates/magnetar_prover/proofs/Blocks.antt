@@ -70,7 +70,8 @@ words-join [] w = refl
 words-join (x ∷ v) w = ap (λ (l : List ℕ). (x % 2 ^ 64) ∷ ((x / 2 ^ 64) ∷ l)) (words-join v w)
 
 -- the words of two messages of four elements each
-module _ (proof t u v w : List ℕ) (p : ℕ) (room : 2 * p + 16 ≤ length proof) (four : length v ≡ 4) (also : length w ≡ 4) (is : t ≡ words v) (so : u ≡ words w) where
+module _ (proof t u v w : List ℕ) (p : ℕ) (room : 2 * p + 16 ≤ length proof) (four : length v ≡ 4) (also : length w ≡ 4) (is : t ≡ words v) (so : u
+    ≡ words w) where
   abbrev p₁ : List ℕ
   p₁ = put_mid (2 * p) (2 * p + 8 - 2 * p) proof t
 

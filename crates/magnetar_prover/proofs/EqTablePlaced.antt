@@ -162,7 +162,8 @@ module _ (label : String) (i p w : ℕ) (s p₀ p₁ p₂ p₃ : List ℕ) (t u 
       → sent_in (p + 3) r p₃ ≡ sent_each label i (three_in w s) (sent_in p t p₀)
   three-sent a b c d e f =
       sym (none (suc (i + 2)) (sent_in (p + 3) r p₃))
-      ∙ (each-one label (i + 2) (suc (i + 2)) (p + 2) (p + 3) (p + 2 + 1) (get_or (elements s) (w + w / 2) 0) (get_or (table_at (3 * w) 2 s) 0 0) [] v r p₂ p₃ refl (omega arith) at_c e f
+      ∙ (each-one label (i + 2) (suc (i + 2)) (p + 2) (p + 3) (p + 2 + 1) (get_or (elements s) (w + w / 2) 0) (get_or (table_at (3 * w) 2 s) 0 0) [] v
+      r p₂ p₃ refl (omega arith) at_c e f
       ∙ (each-one label (i + 1) (i + 2) (p + 1) (p + 2) (p + 1 + 1) (get_or (elements s) w 0) (get_or (table_at (2 * w) 2 s) 0 0) (get_or (table_at (3 * w) 2
       s) 0 0 ∷ []) u v p₁ p₂ (omega arith) (omega arith) at_b c d
       ∙ each-one label i (i + 1) p (p + 1) (p + 1) (get_or (elements s) (w / 2) 0) (get_or (table_at w 2 s) 0 0) (get_or (table_at (2 * w) 2 s) 0 0 ∷ get_or

@@ -22,13 +22,15 @@ pub inner-three : (v : ℕ) (t z : List ℕ) → length (inner_message v t z) �
 unfolding inner_message inner_sums
 inner-three v t z = refl
 
-pub inner-eq : {p q : Steps} {t u y z : List ℕ} → p ≡ q → t ≡ u → y ≡ z → ◌≡◌ {A = InnerSteps} (record { steps = p; table = t; z = y }) (record { steps = q; table = u; z = z })
+pub inner-eq : {p q : Steps} {t u y z : List ℕ} → p ≡ q → t ≡ u → y ≡ z
+    → ◌≡◌ {A = InnerSteps} (record { steps = p; table = t; z = y }) (record { steps = q; table = u; z = z })
 inner-eq {p} {q} {t} {u} {y} {z} e f g =
     ap (λ (x : Steps). record { steps = x; table = t; z = y }) e
     ∙ (ap (λ (x : List ℕ). record { steps = q; table = x; z = y }) f ∙ ap (λ (x : List ℕ). record { steps = q; table = u; z = x }) g)
 
 pub inner-stepped : (m n k d c : ℕ) (t u : Transcript) (proof p' draws d' s s' : List ℕ)
-    → u ≡ transcript.drawn (transcript.absorbed t (ascii "vs-inner") (word_bytes (words (inner_message 0 (table_at 0 n s) (table_at (2 * m) n s))))) (ascii "vs-inner")
+    → u ≡ transcript.drawn (transcript.absorbed t (ascii "vs-inner") (word_bytes (words (inner_message 0 (table_at 0 n s) (table_at (2 * m) n s)))))
+    (ascii "vs-inner")
     → take (k + 3) (elements p') ≡ take k (elements proof) ++ inner_message 0 (table_at 0 n s) (table_at (2 * m) n s)
     → c ≡ value (transcript.element u) → take (d + 1) (elements d') ≡ take d (elements draws) ++ (c ∷ [])
     → table_at 0 (n / 2) s' ≡ bind_var 0 c (table_at 0 n s) → table_at (2 * m) (n / 2) s' ≡ bind_var 0 c (table_at (2 * m) n s)
@@ -82,7 +84,8 @@ inners-end k m i n p t proof draws s r e =
     ∙ (sym (steps-none (inner_in m n (3 * i) i t proof draws s)) ∙ rw z at r.left))
 
 pub inners-next : {k i n : ℕ} {p q : InnerSteps} (m : ℕ) (t : Transcript) (proof draws s : List ℕ) → Inners k p i n q → i < k
-    → inner_in m (n / 2) (3 * i + 3) (i + 1) t proof draws s ≡ inner_step q → Inners k p (i + 1) (n / 2) (inner_in m (n / 2) (3 * (i + 1)) (i + 1) t proof draws s)
+    → inner_in m (n / 2) (3 * i + 3) (i + 1) t proof draws s ≡ inner_step q
+    → Inners k p (i + 1) (n / 2) (inner_in m (n / 2) (3 * (i + 1)) (i + 1) t proof draws s)
 inners-next {k} {i} {n} m t proof draws s r h e =
     let j : 3 * (i + 1) ≡ 3 * i + 3 = omega arith in
     inners-more (inner_in m (n / 2) (3 * (i + 1)) (i + 1) t proof draws s) r h (ap (λ (a : ℕ). inner_in m (n / 2) a (i + 1) t proof draws s) j ∙ e)

@@ -27,7 +27,11 @@ beside d p = record { run_state = record { transcript = p.transcript; draws = d 
 pub each-beside : (label : String) (i : ℕ) (vs d : List ℕ) (p : Sent) → send_each label i vs (beside d p) ≡ beside d (sent_each label i vs p)
 unfolding send_each sent_each
 each-beside label i [] d p = refl
-each-beside label i (v ∷ vs) d p = each-beside label (suc i) vs d (record { transcript = absorbed_one p.transcript (numbered label i) v; sent = p.sent ++ (v ∷ []) })
+each-beside label i (v ∷ vs) d p = each-beside label (suc i) vs d (record {
+  transcript = absorbed_one p.transcript (numbered label i) v;
+  sent = p.sent
+      ++ (v ∷ []);
+})
 
 pub locals-wider : (w : ℕ) (ns : List ℕ) (a b : ℕ) → a ≤ b → Locals w ns a → Locals w ns b
 locals-wider w ns a b h l = record {

@@ -14,7 +14,8 @@ use Rattle.magnetar_hash.specs.Bytes.{ascii}
 use Rattle.magnetar_hash.specs.declared.transcript.Transcript.{Transcript}
 use Rattle.magnetar_sumcheck_verifier.specs.Messages.{Outer, outer_start}
 use Rattle.magnetar_protocol.specs.Shape.{sizes_only}
-use Rattle.magnetar_schedule.specs.Stepwise.{Steps, RowSteps, Tables, draw_times, shared_steps, row_steps, tau_steps, outer_begin, bin_rows, fld_rows, outer_steps, terminals_left, outer_all}
+use Rattle.magnetar_schedule.specs.Stepwise.{Steps, RowSteps, Tables, draw_times, shared_steps, row_steps}
+use Rattle.magnetar_schedule.specs.Stepwise.{tau_steps, outer_begin, bin_rows, fld_rows, outer_steps, terminals_left, outer_all}
 use Rattle.magnetar_schedule.proofs.StepLaws.{row-rounds}
 use Rattle.magnetar_prover.specs.Entries.{table_at, tables_in}
 use Rattle.magnetar_prover.specs.InScratch.{steps_in, outer_in, row_in, sent_in, sent_each, three_in, EqTablePlaced}
@@ -110,7 +111,8 @@ module _ (l b f wb wf : ℕ) (lb : l + b < 62) (lf : l + f < 62) where
       } ≡ bin_of b (shared_in a1 e1 0 b f 0 (l + b) kb kf wb wf (2 * 2 ^ b) (2 * 2 ^ f) t2 p2 d2 s2)
   bin-rows a1 e1 a2 e2 o2 kb kf k3 t2 t3 p2 d2 s2 p3 d3 bin3 h =
       let k : log₂ (2 * 2 ^ b / 2) ≡ 0 + b = half-log (2 * 2 ^ b) b (omega arith) refl ∙ omega arith in
-      let e = h ∙ ap (row_steps "vs-out-rowbin-" 0 b) (row-eq (tau-eq 0 kb wb (2 * 2 ^ b) (take (4 * wb) s2) (ap (λ (n : ℕ). take n (drop 0 (elements d2))) k))) in
+      let e = h ∙ ap (row_steps "vs-out-rowbin-" 0 b) (row-eq (tau-eq 0 kb wb (2 * 2 ^ b) (take (4 * wb) s2) (ap (λ (n : ℕ). take n (drop 0 (elements
+      d2))) k))) in
       ap (λ (R : RowSteps). record {
         steps = R.steps;
         bin = R.held;

@@ -83,7 +83,8 @@ module _ (w : ℕ) (s t : List ℕ) (size : length s ≡ 12 * w) (is : t ≡ pas
       let eight : 8 * w ≡ 4 * w + 2 * (2 * w) = omega arith in
       let front = take-take (2 * w) (10 * w - 4 * w) (drop (4 * w) s) (omega arith) in
       ap (λ (i : ℕ). elements (take (2 * w) (drop i last))) eight
-      ∙ (ap (λ (l : List ℕ). elements (take (2 * w) l)) (from (2 * (2 * w)) ∙ drop-append-le (2 * (2 * w)) t (drop (10 * w - 4 * w) (drop (4 * w) s)) (omega (arith, t-long)))
+      ∙ (ap (λ (l : List ℕ). elements (take (2 * w) l)) (from (2 * (2 * w)) ∙ drop-append-le (2 * (2 * w)) t (drop (10 * w - 4 * w) (drop (4 * w) s))
+      (omega (arith, t-long)))
       ∙ ap elements (take-append-le (2 * w) (drop (2 * (2 * w)) t) (drop (10 * w - 4 * w) (drop (4 * w) s)) (rw length-drop (omega (arith, t-long)))
       ∙ (ap (λ (l : List ℕ). take (2 * w) (drop (2 * (2 * w)) l)) is ∙ (pasted-tail (2 * w) part part-fits ∙ front))))
 

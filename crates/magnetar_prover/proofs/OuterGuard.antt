@@ -61,7 +61,8 @@ pub record OuterFits (q rb rf : ℕ) (proof draws s : List ℕ) : Type 0 where
 pub outer-fits : (q rb rf : ℕ) (proof draws s : List ℕ) (t : Transcript) → outer_rounds_refusal q rb rf proof draws s t ≡ 0 → OuterFits q rb rf proof draws s
 unfolding outer_rounds_refusal
 outer-fits q rb rf proof draws s t e =
-    let k = (first-refusal-clear 0 (count_tests q rb rf ++ total_tests q rb rf ++ (counter_tests t.squeeze_ctr ++ (room_test (2 * outer_drawn (log₂ q) (log₂ rb) (log₂ rf))
+    let k = (first-refusal-clear 0 (count_tests q rb rf ++ total_tests q rb rf ++ (counter_tests t.squeeze_ctr
+    ++ (room_test (2 * outer_drawn (log₂ q) (log₂ rb) (log₂ rf))
     draws ++ room_test (2 * outer_sent (log₂ q) (log₂ rb) (log₂ rf)) proof ++ room_test (block_words q rb rf) s))) refl e).1 in
     record {
       totals = record {

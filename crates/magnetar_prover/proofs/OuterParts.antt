@@ -50,8 +50,10 @@ module _ (l b f wb wf : ℕ) (lb : l + b < 62) (lf : l + f < 62) where
       → row_in (8 * l + 4 * b) (l + b + (l + f) + l + b) (0 + b) k3 wb 2 t3 p3 d3 bin3
       ≡ row_steps "vs-out-rowbin-" 0 b (row_in (8 * l) (l + b + (l + f) + l) 0 kb wb nb t2 p2 d2 (take (4 * wb) s2))
       → row_in (8 * l + 4 * b + 4 * f) (l + b + (l + f) + l + b + f) (l + b + f) k4 wf 2 t4 p4 d4 fld4
-      ≡ row_steps "vs-out-rowfld-" 0 f (row_in (8 * l + 4 * b) (l + b + (l + f) + l + b) (l + b) kf wf nf t3 p3 d3 (take (4 * wb + 4 * wf - 4 * wb) (drop (4 * wb) (bin3 ++ drop (4 * wb) s2))))
-      → left_in (8 * l + 4 * b + 4 * f) (l + b + (l + f) + l + b + f) k3 k4 wb wf t4 p4 d4 (put_mid (4 * wb) (4 * wb + 4 * wf - 4 * wb) (bin3 ++ drop (4 * wb) s2) fld4)
+      ≡ row_steps "vs-out-rowfld-" 0 f (row_in (8 * l + 4 * b) (l + b + (l + f) + l + b) (l + b) kf wf nf t3 p3 d3 (take (4 * wb + 4 * wf - 4 * wb)
+      (drop (4 * wb) (bin3 ++ drop (4 * wb) s2))))
+      → left_in (8 * l + 4 * b + 4 * f) (l + b + (l + f) + l + b + f) k3 k4 wb wf t4 p4 d4 (put_mid (4 * wb) (4 * wb + 4 * wf - 4 * wb) (bin3
+      ++ drop (4 * wb) s2) fld4)
       ≡ fld_of f (bin_of b (shared_in (8 * l) (l + b + (l + f) + l) 0 b f 0 (l + b) kb kf wb wf (2 * 2 ^ b) (2 * 2 ^ f) t2 p2 d2 s2))
   rows_left nb nf kb kf k3 k4 t2 t3 t4 p2 d2 s2 p3 d3 bin3 p4 d4 fld4 e g ls lb3 lf4 he h3 h4 =
       let h3' = h3 ∙ ap (λ (n : ℕ). row_steps "vs-out-rowbin-" 0 b (row_in (8 * l) (l + b + (l + f) + l) 0 kb wb n t2 p2 d2 (take (4 * wb) s2))) e in
@@ -60,9 +62,11 @@ module _ (l b f wb wf : ℕ) (lb : l + b < 62) (lf : l + f < 62) where
       left_is
       ∙ fld-rows l b f wb wf lb lf (8 * l) (l + b + (l + f) + l) (8 * l + 4 * b) (l + b + (l + f) + l + b) (8 * l + 4 * b + 4 * f) (l + b + (l + f) +
       l + b + f) (0 + b) (l + b + f) kb kf k3 k4 t2 t3 t4 p2 d2 s2 p3 d3 bin3 p4 d4 fld4 he (omega arith) (omega arith) h3' h4'
-      ∙ ap (fld_of f) (bin-rows l b f wb wf lb lf (8 * l) (l + b + (l + f) + l) (8 * l + 4 * b) (l + b + (l + f) + l + b) (0 + b) kb kf k3 t2 t3 p2 d2 s2 p3 d3 bin3 h3')
+      ∙ ap (fld_of f) (bin-rows l b f wb wf lb lf (8 * l) (l + b + (l + f) + l) (8 * l + 4 * b) (l + b + (l + f) + l + b) (0 + b) kb kf k3 t2 t3 p2 d2
+      s2 p3 d3 bin3 h3')
     where
-      left_is : left_in (8 * l + 4 * b + 4 * f) (l + b + (l + f) + l + b + f) k3 k4 wb wf t4 p4 d4 (put_mid (4 * wb) (4 * wb + 4 * wf - 4 * wb) (bin3 ++ drop (4 * wb) s2) fld4)
+      left_is : left_in (8 * l + 4 * b + 4 * f) (l + b + (l + f) + l + b + f) k3 k4 wb wf t4 p4 d4 (put_mid (4 * wb) (4 * wb + 4 * wf - 4 * wb) (bin3
+          ++ drop (4 * wb) s2) fld4)
           ≡ record {
             steps = steps_in (8 * l + 4 * b + 4 * f) (l + b + (l + f) + l + b + f) t4 p4 d4;
             bin = (row_in (8 * l + 4 * b) (l + b + (l + f) + l + b) (0 + b) k3 wb 2 t3 p3 d3 bin3).held;
@@ -70,8 +74,10 @@ module _ (l b f wb wf : ℕ) (lb : l + b < 62) (lf : l + f < 62) where
           }
       left_is =
           ap₂ (λ (x y : Outer). record { steps = steps_in (8 * l + 4 * b + 4 * f) (l + b + (l + f) + l + b + f) t4 p4 d4; bin = x; fld = y })
-          (ap (outer_in 0 [] k3 wb 2) (both-front s2 bin3 fld4 (4 * wb) (4 * wf) ls lb3 lf4) ∙ tau-eq 0 k3 wb 2 bin3 (sym (none_left (drop (0 + b) (elements d3)))))
-          (ap (outer_in 0 [] k4 wf 2) (both_behind s2 bin3 fld4 (4 * wb) (4 * wf) ls lb3 lf4) ∙ tau-eq 0 k4 wf 2 fld4 (sym (none_left (drop (l + b + f) (elements d4)))))
+          (ap (outer_in 0 [] k3 wb 2) (both-front s2 bin3 fld4 (4 * wb) (4 * wf) ls lb3 lf4)
+          ∙ tau-eq 0 k3 wb 2 bin3 (sym (none_left (drop (0 + b) (elements d3)))))
+          (ap (outer_in 0 [] k4 wf 2) (both_behind s2 bin3 fld4 (4 * wb) (4 * wf) ls lb3 lf4)
+          ∙ tau-eq 0 k4 wf 2 fld4 (sym (none_left (drop (l + b + f) (elements d4)))))
 
   -- ---- the terminals and the alphas
   pub end-left : (a d kb kf : ℕ) (t4 t5 t6 : Transcript) (p4 d4 s4 p5 d6 fld : List ℕ) → fld ≡ drop (4 * wb) s4
@@ -81,7 +87,8 @@ module _ (l b f wb wf : ℕ) (lb : l + b < 62) (lf : l + f < 62) where
   end-left a d kb kf t4 t5 t6 p4 d4 s4 p5 d6 fld e h5 h6 =
       drawn-sending 6 (a + 6) d (d + 6) (ascii "vs-alpha") t5 t6 p5 d4 d6 h6
       ∙ ap (draw_times 6 (ascii "vs-alpha"))
-      (ap (beside (take d (elements d4))) (h5 ∙ ap (λ (s : List ℕ). sent_each "vs-terminal-" 0 (three_in wb (take (4 * wb) s4) ++ three_in wf s) (sent_in a t4 p4)) e)
+      (ap (beside (take d (elements d4))) (h5 ∙ ap (λ (s : List ℕ). sent_each "vs-terminal-" 0 (three_in wb (take (4 * wb) s4)
+      ++ three_in wf s) (sent_in a t4 p4)) e)
       ∙ sym (each-beside "vs-terminal-" 0 (three_in wb (take (4 * wb) s4) ++ three_in wf (drop (4 * wb) s4)) (take d (elements d4)) (sent_in a t4 p4)))
 
   -- ---- one after the other

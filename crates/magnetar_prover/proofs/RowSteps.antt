@@ -57,7 +57,16 @@ first-tau : (y o : ℕ) (E : List ℕ) → get_or (take (suc y) (drop o E)) 0 0 
 first-tau y o E = get_or-take (suc y) (drop o E) 0 0 (omega arith) ∙ (get_or-drop o E 0 0 ∙ ap (λ (j : ℕ). get_or E j 0) (add-zero o))
 
 pub outer-eq : {h : ℕ} {tau tau' : List ℕ} {k k' : ℕ} {e e' a a' b b' c c' : List ℕ} → tau ≡ tau' → k ≡ k' → e ≡ e' → a ≡ a' → b ≡ b' → c ≡ c'
-    → ◌≡◌ {A = Outer} (record { high = h; tau = tau; k = k; e = e; a = a; b = b; c = c }) (record { high = h; tau = tau'; k = k'; e = e'; a = a'; b = b'; c = c' })
+    → ◌≡◌ {A = Outer} (record { high = h; tau = tau; k = k; e = e; a = a; b = b; c = c }) (record {
+      high = h;
+      tau = tau';
+      k = k';
+      e = e';
+      a = a';
+      b =
+          b';
+      c = c';
+    })
 outer-eq p q r s t u = rw (p, q, r, s, t, u)
 
 row-eq : {p q : Steps} {g h : Outer} → p ≡ q → g ≡ h → ◌≡◌ {A = RowSteps} (record { steps = p; held = g }) (record { steps = q; held = h })
@@ -79,7 +88,8 @@ pub row-stepped : (label : String) (i y p d o k k' τ w n : ℕ) (t u : Transcri
     → n ≡ 2 * 2 ^ suc y → suc y < 62 → o + suc y ≤ d → d ≤ length (elements draws) → τ ≡ get_or (elements draws) o 0
     → u ≡ transcript.drawn (transcript.absorbed t (numbered label i) (word_bytes (words (outer_message 0 k τ (drop_var 0 (table_at 0 n s)) (table_at w n
     s) (table_at (2 * w) n s) (table_at (3 * w) n s))))) (numbered label i)
-    → take (p + 4) (elements p') ≡ take p (elements proof) ++ outer_message 0 k τ (drop_var 0 (table_at 0 n s)) (table_at w n s) (table_at (2 * w) n s) (table_at (3 * w) n s)
+    → take (p + 4) (elements p') ≡ take p (elements proof) ++ outer_message 0 k τ (drop_var 0 (table_at 0 n s)) (table_at w n s) (table_at (2 * w) n
+    s) (table_at (3 * w) n s)
     → take (d + 1) (elements d') ≡ take d (elements draws) ++ (value (transcript.element u) ∷ [])
     → k' ≡ k ⊗ (1 ⊕ τ ⊕ value (transcript.element u))
     → table_at 0 (n / 2) s' ≡ drop_var 0 (table_at 0 n s) → table_at w (n / 2) s' ≡ bind_var 0 (value (transcript.element u)) (table_at w n s)
@@ -93,7 +103,8 @@ row-stepped label i y p d o k k' τ w n t u proof p' draws d' s s' size few room
     let g = first-tau y o (elements draws) ∙ sym tau in
     let m = next-is k τ w n (take (suc y) (drop o (elements draws))) s g in
     rw (x, z) (row-eq
-    (round-sent (numbered label i) t u proof p' draws d' (outer_next (outer_in 0 (take (suc y) (drop o (elements draws))) k w n s)) p 4 d (value (transcript.element u))
+    (round-sent (numbered label i) t u proof p' draws d' (outer_next (outer_in 0 (take (suc y) (drop o (elements draws))) k w n s)) p 4 d (value
+    (transcript.element u))
     (transcript-is ∙ ap (λ (l : List ℕ). transcript.drawn (transcript.absorbed t (numbered label i) (word_bytes (words l))) (numbered label i)) (sym m))
     (sent ∙ ap (λ (l : List ℕ). take p (elements proof) ++ l) (sym m)) refl drawn)
     (fold_is k k' (value (transcript.element u)) τ w n (take (suc y) (drop o (elements draws))) (take y (drop (o + 1) (elements d'))) s s' g
@@ -116,7 +127,8 @@ pub row_done : (label : String) (i p d o k k' τ w n : ℕ) (t u : Transcript) (
     → Rows n o d → n ≤ w → d ≤ length (elements draws) → τ ≡ get_or (elements draws) o 0
     → u ≡ transcript.drawn (transcript.absorbed t (numbered label i) (word_bytes (words (outer_message 0 k τ (drop_var 0 (table_at 0 n s)) (table_at w n
     s) (table_at (2 * w) n s) (table_at (3 * w) n s))))) (numbered label i)
-    → take (p + 4) (elements p') ≡ take p (elements proof) ++ outer_message 0 k τ (drop_var 0 (table_at 0 n s)) (table_at w n s) (table_at (2 * w) n s) (table_at (3 * w) n s)
+    → take (p + 4) (elements p') ≡ take p (elements proof) ++ outer_message 0 k τ (drop_var 0 (table_at 0 n s)) (table_at w n s) (table_at (2 * w) n
+    s) (table_at (3 * w) n s)
     → take (d + 1) (elements d') ≡ take d (elements draws) ++ (value (transcript.element u) ∷ [])
     → k' ≡ k ⊗ (1 ⊕ τ ⊕ value (transcript.element u))
     → table_at 0 (n / 2) s₁ ≡ drop_var 0 (table_at 0 n s) → drop w s₁ ≡ drop w s → take w s' ≡ take w s₁
@@ -130,7 +142,8 @@ row_done label i p d o k k' τ w n t u proof p' draws d' s s₁ s' r fits long t
     at : (j : ℕ) → w ≤ j → bind_var 0 (value (transcript.element u)) (table_at j n s₁) ≡ bind_var 0 (value (transcript.element u)) (table_at j n s)
     at j h = ap (λ (l : List ℕ). bind_var 0 (value (transcript.element u)) (elements (take n l))) (back-same w j s₁ s h kept)
 
-    go : (x : ℕ) → 0 < x → x < 62 → n ≡ 2 * 2 ^ x → row_in (p + 4) (d + 1) (o + 1) k' w (n / 2) u p' d' s' ≡ row_step label i (row_in p d o k w n t proof draws s)
+    go : (x : ℕ) → 0 < x → x < 62 → n ≡ 2 * 2 ^ x → row_in (p + 4) (d + 1) (o + 1) k' w (n / 2) u p' d' s'
+        ≡ row_step label i (row_in p d o k w n t proof draws s)
     go zero h f z = absurd (omega arith)
     go (suc y) h f z =
         let v : log₂ (n / 2) ≡ suc y = vars-of n (suc y) z f in

@@ -104,14 +104,16 @@ each_more label f n i k start t u proof p' r h e g = record {
     same : sent_in (k + (i + 1)) u p' ≡ record { transcript = absorbed_one t (numbered label i) (f i); sent = take (k + i) (elements proof) ++ (f i ∷ []) }
     same = ap₂ (λ (x : Transcript) (l : List ℕ). record { transcript = x; sent = l }) e (ap (λ (j : ℕ). take j (elements p')) place ∙ g)
 
-pub each-end : (label : String) (f : ℕ → ℕ) (n i : ℕ) (start at : Sent) → Each label (tabulate f n) start i at → i ≡ n → at ≡ sent_each label 0 (tabulate f n) start
+pub each-end : (label : String) (f : ℕ → ℕ) (n i : ℕ) (start at : Sent) → Each label (tabulate f n) start i at → i ≡ n → at
+    ≡ sent_each label 0 (tabulate f n) start
 unfolding sent_each
 each-end label f n i start at r e = (rw (drop_of_length-le (tabulate f n) {i = i} (rw tabulate-length (omega arith))) at r.left)
 
 pub each-start-at : (label : String) (vs : List ℕ) (k : ℕ) (t : Transcript) (proof : List ℕ) → Each label vs (sent_in k t proof) 0 (sent_in (k + 0) t proof)
 each-start-at label vs k t proof = record { left = ap (λ (j : ℕ). sent_each label 0 vs (sent_in j t proof)) (add-zero k) }
 
-pub each-done : (label : String) (f : ℕ → ℕ) (n i k : ℕ) (start : Sent) (t : Transcript) (proof : List ℕ) → Each label (tabulate f n) start i (sent_in (k + i) t proof)
+pub each-done : (label : String) (f : ℕ → ℕ) (n i k : ℕ) (start : Sent) (t : Transcript) (proof : List ℕ)
+    → Each label (tabulate f n) start i (sent_in (k + i) t proof)
     → i ≡ n → sent_in (k + n) t proof ≡ sent_each label 0 (tabulate f n) start
 each-done label f n i k start t proof r e =
     ap (λ (j : ℕ). sent_in (k + j) t proof) (sym e) ∙ each-end label f n i start (sent_in (k + i) t proof) r e

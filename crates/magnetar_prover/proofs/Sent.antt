@@ -40,7 +40,14 @@ elements-after (suc k) (x ∷ []) vs e = absurd (omega arith)
 elements-after (suc k) (x ∷ (y ∷ s)) vs e = ap (λ (l : List ℕ). (y * 2 ^ 64 + x) ∷ l) (elements-after k s vs (omega arith))
 
 pub steps-eq : {t u : Transcript} {d e a b : List ℕ} → t ≡ u → d ≡ e → a ≡ b
-    → ◌≡◌ {A = Steps} (record { run_state = record { transcript = t; draws = d }; sent = a }) (record { run_state = record { transcript = u; draws = e }; sent = b })
+    → ◌≡◌ {A = Steps} (record { run_state = record { transcript = t; draws = d }; sent = a }) (record {
+      run_state = record {
+        transcript = u;
+        draws =
+            e;
+      };
+      sent = b;
+    })
 steps-eq {t} {u} {d} {e} {a} {b} p q r =
     ap (λ (x : Transcript). record { run_state = record { transcript = x; draws = d }; sent = a }) p
     ∙ (ap (λ (x : List ℕ). record { run_state = record { transcript = u; draws = x }; sent = a }) q
@@ -69,7 +76,8 @@ module _ (proof t msg : List ℕ) (p w k n : ℕ) (at : p ≡ 2 * k) (size : w �
   sent-there = part-is (put_mid p (p + w - p) proof t) p w ∙ (mid_at proof t p w room long ∙ is)
 
 -- an element put behind d others
-pub drawn-more : (draws last : List ℕ) (d v : ℕ) → last ≡ stored draws d v → 2 * d + 2 ≤ length draws → take (d + 1) (elements last) ≡ take d (elements draws) ++ (v ∷ [])
+pub drawn-more : (draws last : List ℕ) (d v : ℕ) → last ≡ stored draws d v → 2 * d + 2 ≤ length draws → take (d + 1) (elements last)
+    ≡ take d (elements draws) ++ (v ∷ [])
 drawn-more draws last d v e h =
     rw (e, elements-stored draws d v, add-one) (take-suc-set (elements draws) d v (rw elements-length (omega arith)))
 
@@ -111,7 +119,8 @@ stored_there s k v h =
 pub one-absorbed : (label : List ℕ) (t u : Transcript) (proof p' : List ℕ) (k v : ℕ) → p' ≡ stored proof k v → 2 * k + 2 ≤ length proof
     → u ≡ transcript.absorbed t label (word_bytes (take (2 * k + 2 - 2 * k) (drop (2 * k) p'))) → u ≡ absorbed_one t label v
 one-absorbed label t u proof p' k v e h f =
-    f ∙ ap (λ (x : List ℕ). transcript.absorbed t label (word_bytes x)) (part-is p' (2 * k) 2 ∙ (ap (λ (x : List ℕ). take 2 (drop (2 * k) x)) e ∙ stored_there proof k v h))
+    f ∙ ap (λ (x : List ℕ). transcript.absorbed t label (word_bytes x)) (part-is p' (2 * k) 2 ∙ (ap (λ (x : List ℕ). take 2 (drop (2 * k) x)) e
+    ∙ stored_there proof k v h))
 
 -- the first element of a table
 pub table-first : (s : List ℕ) (i k n : ℕ) → i ≡ 2 * k → 2 ≤ n → get_or (elements (take n (drop i s))) 0 0 ≡ get_or (elements s) k 0

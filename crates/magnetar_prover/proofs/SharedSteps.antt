@@ -30,7 +30,8 @@ next-high : (y v k τ w n : ℕ) (tau s : List ℕ) → length tau - 1 ≡ v →
 unfolding outer_next next_var
 next-high y v k τ w n tau s l e = rw (l, e)
 
-fold-high : (y v k k' r τ w n : ℕ) (tau tau' s s' : List ℕ) → length tau - 1 ≡ v → get_or tau v 0 ≡ τ → tau' ≡ take v tau ++ drop (suc v) tau → k' ≡ k ⊗ (1 ⊕ τ ⊕ r)
+fold-high : (y v k k' r τ w n : ℕ) (tau tau' s s' : List ℕ) → length tau - 1 ≡ v → get_or tau v 0 ≡ τ → tau' ≡ take v tau ++ drop (suc v) tau → k'
+    ≡ k ⊗ (1 ⊕ τ ⊕ r)
     → table_at 0 (n / 2) s' ≡ drop_var v (table_at 0 n s) → table_at w (n / 2) s' ≡ bind_var v r (table_at w n s)
     → table_at (2 * w) (n / 2) s' ≡ bind_var v r (table_at (2 * w) n s) → table_at (3 * w) (n / 2) s' ≡ bind_var v r (table_at (3 * w) n s)
     → outer_in y tau' k' w (n / 2) s' ≡ outer_fold r (outer_in (suc y) tau k w n s)
@@ -97,10 +98,16 @@ both-stepped : (i p d : ℕ) (t u : Transcript) (proof p' draws d' m : List ℕ)
     → take (p + 8) (elements p') ≡ take p (elements proof) ++ m
     → take (d + 1) (elements d') ≡ take d (elements draws) ++ (value (transcript.element u) ∷ [])
     → S' ≡ outer_fold (value (transcript.element u)) S → T' ≡ outer_fold (value (transcript.element u)) T
-    → ◌≡◌ {A = OuterSteps} (record { steps = steps_in (p + 8) (d + 1) u p' d'; bin = S'; fld = T' }) (shared_step i (record { steps = steps_in p d t proof draws; bin = S; fld = T }))
+    → ◌≡◌ {A = OuterSteps} (record { steps = steps_in (p + 8) (d + 1) u p' d'; bin = S'; fld = T' }) (shared_step i (record {
+      steps = steps_in p d t
+          proof draws;
+      bin = S;
+      fld = T;
+    }))
 unfolding shared_step
 both-stepped i p d t u proof p' draws d' m S T S' T' e transcript-is sent drawn f g =
-    let k = transcript-is ∙ ap (λ (l : List ℕ). transcript.drawn (transcript.absorbed t (numbered "vs-out-shared-" i) (word_bytes (words l))) (numbered "vs-out-shared-" i)) (sym e) in
+    let k = transcript-is ∙ ap (λ (l : List ℕ). transcript.drawn (transcript.absorbed t (numbered "vs-out-shared-" i) (word_bytes (words l)))
+    (numbered "vs-out-shared-" i)) (sym e) in
     steps-eq
     (round-sent (numbered "vs-out-shared-" i) t u proof p' draws d' (outer_next S ++ outer_next T) p 8 d (value (transcript.element u)) k
     (sent ∙ ap (λ (l : List ℕ). take p (elements proof) ++ l) (sym e)) refl drawn)
@@ -113,15 +120,21 @@ pub shared-done : (i h b f o q p d kb kb' kf kf' ub uf wb nb wf nf : ℕ) (t u :
     → ub ≡ get_or (elements draws) (o + (h + b - 1)) 0 → uf ≡ get_or (elements draws) (q + (h + f - 1)) 0
     → u ≡ transcript.drawn (transcript.absorbed t (numbered "vs-out-shared-" i) (word_bytes (words (message_in (h + b - 1) kb ub wb nb (take (4 * wb)
     s) ++ message_in (h + f - 1) kf uf wf nf (drop (4 * wb) s))))) (numbered "vs-out-shared-" i)
-    → take (p + 8) (elements p') ≡ take p (elements proof) ++ (message_in (h + b - 1) kb ub wb nb (take (4 * wb) s) ++ message_in (h + f - 1) kf uf wf nf (drop (4 * wb) s))
+    → take (p + 8) (elements p') ≡ take p (elements proof) ++ (message_in (h + b - 1) kb ub wb nb (take (4 * wb) s)
+    ++ message_in (h + f - 1) kf uf wf nf (drop (4 * wb) s))
     → take (d + 1) (elements d') ≡ take d (elements draws) ++ (value (transcript.element u) ∷ [])
     → kb' ≡ kb ⊗ (1 ⊕ ub ⊕ value (transcript.element u)) → kf' ≡ kf ⊗ (1 ⊕ uf ⊕ value (transcript.element u))
     → Dropped (h + b - 1) wb nb (take (4 * wb) s) (take (4 * wb) s₁) → Dropped (h + f - 1) wf nf (drop (4 * wb) s) (drop (4 * wb) s₁)
     → Folded (h + b - 1) (value (transcript.element u)) wb nb (take (4 * wb) s₁) (take (4 * wb) s')
     → Folded (h + f - 1) (value (transcript.element u)) wf nf (drop (4 * wb) s₁) (drop (4 * wb) s')
-    → shared_in (p + 8) (d + 1) (h - 1) b f o q kb' kf' wb wf (nb / 2) (nf / 2) u p' d' s' ≡ shared_step i (shared_in p d h b f o q kb kf wb wf nb nf t proof draws s)
-shared-done i h b f o q p d kb kb' kf kf' ub uf wb nb wf nf t u proof p' draws d' s s₁ s' B F fb ff long tb tf transcript-is sent drawn nextb nextf Db Df Gb Gf =
-    go (h - 1) (h + b - 1) (h + f - 1) (omega (arith, B.some)) (omega (arith, B.some)) (omega (arith, B.some)) (omega (arith, B.some)) (omega (arith, B.some)) tb tf transcript-is sent Db Df Gb Gf
+    → shared_in (p + 8) (d + 1) (h - 1) b f o q kb' kf' wb wf (nb / 2) (nf / 2) u p' d' s'
+    ≡ shared_step i (shared_in p d h b f o q kb kf wb wf nb nf t proof draws s)
+shared-done i h b f o q p d kb kb' kf kf' ub uf wb nb wf nf t u proof p' draws d' s s₁ s' B F fb ff long tb tf transcript-is sent drawn nextb nextf Db
+    Df Gb Gf =
+    go (h - 1) (h + b - 1) (h + f - 1) (omega (arith, B.some)) (omega (arith, B.some)) (omega (arith, B.some)) (omega (arith, B.some)) (omega (
+      arith,
+      B.some,
+    )) tb tf transcript-is sent Db Df Gb Gf
   where
     go : (y v w : ℕ) → h ≡ suc y → h + b ≡ suc v → h + f ≡ suc w → h - 1 + b ≡ v → h - 1 + f ≡ w
         → ub ≡ get_or (elements draws) (o + v) 0 → uf ≡ get_or (elements draws) (q + w) 0
@@ -131,7 +144,8 @@ shared-done i h b f o q p d kb kb' kf kf' ub uf wb nb wf nf t u proof p' draws d
         → Dropped v wb nb (take (4 * wb) s) (take (4 * wb) s₁) → Dropped w wf nf (drop (4 * wb) s) (drop (4 * wb) s₁)
         → Folded v (value (transcript.element u)) wb nb (take (4 * wb) s₁) (take (4 * wb) s')
         → Folded w (value (transcript.element u)) wf nf (drop (4 * wb) s₁) (drop (4 * wb) s')
-        → shared_in (p + 8) (d + 1) (h - 1) b f o q kb' kf' wb wf (nb / 2) (nf / 2) u p' d' s' ≡ shared_step i (shared_in p d h b f o q kb kf wb wf nb nf t proof draws s)
+        → shared_in (p + 8) (d + 1) (h - 1) b f o q kb' kf' wb wf (nb / 2) (nf / 2) u p' d' s'
+        ≡ shared_step i (shared_in p d h b f o q kb kf wb wf nb nf t proof draws s)
     go y v w eh eb ef lb lf tb tf transcript-is sent Db Df Gb Gf =
         let z : h - 1 ≡ y = omega (arith, eh) in
         let rb : o + suc v ≤ d = omega (arith, B.before, eb) in
@@ -143,11 +157,15 @@ shared-done i h b f o q p d kb kb' kf kf' ub uf wb nb wf nf t u proof p' draws d
         (outer_in y (take v (drop o (elements d'))) kb' wb (nb / 2) (take (4 * wb) s'))
         (outer_in y (take w (drop q (elements d'))) kf' wf (nf / 2) (drop (4 * wb) s'))
         (ap₂ (λ (x y : List ℕ). x ++ y)
-        (high-next y v o d kb kb' ub wb nb (value (transcript.element u)) (elements draws) (elements d') (take (4 * wb) s) (take (4 * wb) s₁) (take (4 * wb) s') rb long fb tb drawn nextb Db Gb)
-        (high-next y w q d kf kf' uf wf nf (value (transcript.element u)) (elements draws) (elements d') (drop (4 * wb) s) (drop (4 * wb) s₁) (drop (4 * wb) s') rf long ff tf drawn nextf Df Gf))
+        (high-next y v o d kb kb' ub wb nb (value (transcript.element u)) (elements draws) (elements d') (take (4 * wb) s) (take (4 * wb) s₁) (take (4
+        * wb) s') rb long fb tb drawn nextb Db Gb)
+        (high-next y w q d kf kf' uf wf nf (value (transcript.element u)) (elements draws) (elements d') (drop (4 * wb) s) (drop (4 * wb) s₁) (drop (4
+        * wb) s') rf long ff tf drawn nextf Df Gf))
         transcript-is sent drawn
-        (high-fold y v o d kb kb' ub wb nb (value (transcript.element u)) (elements draws) (elements d') (take (4 * wb) s) (take (4 * wb) s₁) (take (4 * wb) s') rb long fb tb drawn nextb Db Gb)
-        (high-fold y w q d kf kf' uf wf nf (value (transcript.element u)) (elements draws) (elements d') (drop (4 * wb) s) (drop (4 * wb) s₁) (drop (4 * wb) s') rf long ff tf drawn nextf Df Gf))
+        (high-fold y v o d kb kb' ub wb nb (value (transcript.element u)) (elements draws) (elements d') (take (4 * wb) s) (take (4 * wb) s₁) (take (4
+        * wb) s') rb long fb tb drawn nextb Db Gb)
+        (high-fold y w q d kf kf' uf wf nf (value (transcript.element u)) (elements draws) (elements d') (drop (4 * wb) s) (drop (4 * wb) s₁) (drop (4
+        * wb) s') rf long ff tf drawn nextf Df Gf))
 
 -- the table of a system has the variable that the round binds
 pub high-table : {h b n o d : ℕ} → Shared h b n o d → Table (h + b - 1) n
@@ -168,7 +186,8 @@ unfolding shared_steps
 steps-none i q = refl
 
 pub sharing-start : (x b f o q p d kb kf wb wf nb nf : ℕ) (t : Transcript) (proof draws s : List ℕ) → nb ≡ 2 * 2 ^ (x + b) → nf ≡ 2 * 2 ^ (x + f)
-    → Sharing x b f (shared_in p d x b f o q kb kf wb wf nb nf t proof draws s) 0 nb nf (shared_in (p + 8 * 0) (d + 0) (x - 0) b f o q kb kf wb wf nb nf t proof draws s)
+    → Sharing x b f (shared_in p d x b f o q kb kf wb wf nb nf t proof draws s) 0 nb nf (shared_in (p + 8 * 0) (d + 0) (x - 0) b f o q kb kf wb wf nb
+    nf t proof draws s)
 sharing-start x b f o q p d kb kf wb wf nb nf t proof draws s eb ef =
     let z : x - 0 ≡ x = omega arith in
     let a : p + 8 * 0 ≡ p = omega arith in
@@ -189,7 +208,8 @@ module _ {x b f i nb nf : ℕ} {p r : OuterSteps} (S : Sharing x b f p i nb nf r
 
   pub sharing-next : (o q a d kb kf wb wf : ℕ) (t : Transcript) (proof draws s : List ℕ)
       → shared_in (a + 8 * i + 8) (d + i + 1) (x - i - 1) b f o q kb kf wb wf (nb / 2) (nf / 2) t proof draws s ≡ shared_step i r
-      → Sharing x b f p (i + 1) (nb / 2) (nf / 2) (shared_in (a + 8 * (i + 1)) (d + (i + 1)) (x - (i + 1)) b f o q kb kf wb wf (nb / 2) (nf / 2) t proof draws s)
+      → Sharing x b f p (i + 1) (nb / 2) (nf / 2) (shared_in (a + 8 * (i + 1)) (d + (i + 1)) (x - (i + 1)) b f o q kb kf wb wf (nb / 2) (nf / 2) t
+      proof draws s)
   sharing-next o q a d kb kf wb wf t proof draws s e = record {
     bin = half nb b S.bin;
     fld = half nf f S.fld;

@@ -116,7 +116,8 @@ tables_in b f bin fld = record {
 -- the tables of both systems: four of 2 q rb words, then four of 2 q rf words; the first table of each four is not read
 abbrev pub tables_of : (q rb rf : ℕ) → List ℕ → Tables
 tables_of q rb rf s =
-    tables_in (2 * (q * rb)) (2 * (q * rf)) (take (4 * (2 * (q * rb))) (take (block_words q rb rf) s)) (drop (4 * (2 * (q * rb))) (take (block_words q rb rf) s))
+    tables_in (2 * (q * rb)) (2 * (q * rf)) (take (4 * (2 * (q * rb))) (take (block_words q rb rf) s)) (drop (4 * (2 * (q * rb))) (take (block_words q
+    rb rf) s))
 
 -- the run
 unfoldable pub outer_run_steps : (q rb rf : ℕ) → List ℕ → Transcript → Steps

@@ -21,5 +21,6 @@ returns c =
     let l = length-take-le x.n x.s.now (omega arith) in
     let k = part-size x.s.now (2 * x.m) x.n (omega arith) in
     c.inner_message-done.ensures.message
-    ∙ (inner-written x.out.now (take x.n x.s.now) (take (2 * x.m + x.n - 2 * x.m) (drop (2 * x.m) x.s.now)) w.vars p.out_len (l ∙ w.size) (k ∙ sym l) w.var w.few
+    ∙ (inner-written x.out.now (take x.n x.s.now) (take (2 * x.m + x.n - 2 * x.m) (drop (2 * x.m) x.s.now)) w.vars p.out_len (l ∙ w.size) (k
+    ∙ sym l) w.var w.few
     ∙ ap (λ (z : List ℕ). words (inner_message 0 (elements (take x.n x.s.now)) (elements z))) (part-is x.s.now (2 * x.m) x.n))

@@ -27,7 +27,8 @@ slice_bounds-send_segments-end c = let x = c.args in
     let p = c.requires in
     let l : length c.lay_out.new.s ≡ 12 * x.w = c.lay_out.auto.s ∙ p.s_len.0 in
     let f : length c.rounds-u.new.s ≡ 8 * x.w = c.rounds-u.auto.s ∙ length-take-le _ _ (omega (arith, l)) in
-    let g : length (c.rounds-u.new.s ++ drop (8 * x.w) c.lay_out.new.s) ≡ 12 * x.w = fore-length c.lay_out.new.s c.rounds-u.new.s (8 * x.w) (omega (arith, l)) f ∙ l in
+    let g : length (c.rounds-u.new.s ++ drop (8 * x.w) c.lay_out.new.s) ≡ 12 * x.w = fore-length c.lay_out.new.s c.rounds-u.new.s (8 * x.w) (omega
+    (arith, l)) f ∙ l in
     omega (arith, g)
 
 pub send_segments-r-requires : goal.send_segments-r-requires
@@ -35,7 +36,8 @@ send_segments-r-requires c = let x = c.args in
     let p = c.requires in
     let l : length c.lay_out.new.s ≡ 12 * x.w = c.lay_out.auto.s ∙ p.s_len.0 in
     let f : length c.rounds-u.new.s ≡ 8 * x.w = c.rounds-u.auto.s ∙ length-take-le _ _ (omega (arith, l)) in
-    let g : length (c.rounds-u.new.s ++ drop (8 * x.w) c.lay_out.new.s) ≡ 12 * x.w = fore-length c.lay_out.new.s c.rounds-u.new.s (8 * x.w) (omega (arith, l)) f ∙ l in
+    let g : length (c.rounds-u.new.s ++ drop (8 * x.w) c.lay_out.new.s) ≡ 12 * x.w = fore-length c.lay_out.new.s c.rounds-u.new.s (8 * x.w) (omega
+    (arith, l)) f ∙ l in
     let d : length c.rounds-u.new.draws ≡ 2 * x.k = c.rounds-u.auto.draws ∙ p.draws_len.0 in
     let h : length c.send_z-v.new.proof ≡ length x.proof.now = c.send_z-v.auto.proof ∙ c.rounds-u.auto.proof in
     let i : 12 * x.w - 8 * x.w ≡ 4 * x.w = omega arith in record {
@@ -57,14 +59,19 @@ returns c = let x = c.args in
     let l : length c.lay_out.new.s ≡ 12 * x.w
     = c.lay_out.auto.s ∙ p.s_len.0 in
     let f : length c.rounds-u.new.s ≡ 8 * x.w = c.rounds-u.auto.s ∙ length-take-le _ _ (omega (arith, l)) in
-    let g : length (c.rounds-u.new.s ++ drop (8 * x.w) c.lay_out.new.s) ≡ 12 * x.w = fore-length c.lay_out.new.s c.rounds-u.new.s (8 * x.w) (omega (arith, l)) f ∙ l in
+    let g : length (c.rounds-u.new.s ++ drop (8 * x.w) c.lay_out.new.s) ≡ 12 * x.w = fore-length c.lay_out.new.s c.rounds-u.new.s (8 * x.w) (omega
+    (arith, l)) f ∙ l in
     let d : length c.rounds-u.new.draws ≡ 2 * x.k = c.rounds-u.auto.draws ∙ p.draws_len.0 in
     let k : length c.send_segments-r.new.s ≡ 12 * x.w - 8 * x.w
     = c.send_segments-r.auto.s ∙ part_length _ (8 * x.w) (12 * x.w) (omega (arith, g)) in
-    let e = put-length (c.rounds-u.new.s ++ drop (8 * x.w) c.lay_out.new.s) c.send_segments-r.new.s (8 * x.w) (12 * x.w) (omega arith) (omega (arith, g)) k ∙ (g ∙ sym p.s_len.0) in
+    let e = put-length (c.rounds-u.new.s ++ drop (8 * x.w) c.lay_out.new.s) c.send_segments-r.new.s (8 * x.w) (12 * x.w) (omega arith) (omega (
+      arith,
+      g,
+    )) k ∙ (g ∙ sym p.s_len.0) in
     let a = c.lay_out in
     let b = c.rounds-u in record {
-      run = whole_is x.k x.w x.lens.now x.s.now a.new.s b.new.s x.proof.now b.new.proof c.send_z-v.new.proof c.send_segments-r.new.proof x.draws.now b.new.draws x.t b.result c.send_z-v.result c.send_segments-r.result l p.s_len.1 f d
+      run = whole_is x.k x.w x.lens.now x.s.now a.new.s b.new.s x.proof.now b.new.proof c.send_z-v.new.proof c.send_segments-r.new.proof x.draws.now
+          b.new.draws x.t b.result c.send_z-v.result c.send_segments-r.result l p.s_len.1 f d
           a.ensures.table a.ensures.z a.ensures.copy b.ensures c.send_z-v.ensures.transcript c.send_z-v.ensures.sent c.send_segments-r.ensures;
       cleared = c.clear.ensures ∙ ap (λ (n : ℕ). replicate n 0) e;
     }

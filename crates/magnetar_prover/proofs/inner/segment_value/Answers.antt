@@ -40,6 +40,7 @@ returns c =
     let h : 2 * x.w + 2 * n ≤ length x.s.now = omega (arith, c.requires.local.most) in
     let point = local-point x.w n g.result x.draws.now x.s.now g.ensures.0 c.requires.local (omega (arith, c.requires.local.most)) in
     let built = c.build-done.ensures.table ∙ eq-built _ _ point in record {
-      value = c.segment_dot.ensures ∙ segment-sum x.w n g.result x.i x.lens.now x.draws.now x.s.now c.build-done.new.out g.ensures.0 refl c.requires.local h built;
+      value = c.segment_dot.ensures ∙ segment-sum x.w n g.result x.i x.lens.now x.draws.now x.s.now c.build-done.new.out g.ensures.0 refl
+          c.requires.local h built;
       kept = columns-kept x.w n g.result x.i x.lens.now x.draws.now x.s.now c.build-done.new.out g.ensures.0 refl c.requires.local h built;
     }

@@ -10,5 +10,6 @@ use Rattle.magnetar_prover.proofs.inner.send_segments.Given as goal
 
 abbrev pub invariant-loop-i : goal.invariant-loop-i
 invariant-loop-i l = (table_at 0 (2 *
-    l.w) l.s ≡ table_at 0 (2 * l.w) l.initial.s) × Each "vs-seg-" (tabulate (segment_in l.lens (table_at 0 (2 * l.w) l.initial.s) (elements l.draws)) (length l.lens)) (sent_in l.k l.initial.u
+    l.w) l.s ≡ table_at 0 (2 * l.w) l.initial.s) × Each "vs-seg-" (tabulate (segment_in l.lens (table_at 0 (2 * l.w) l.initial.s) (elements l.draws))
+    (length l.lens)) (sent_in l.k l.initial.u
     l.initial.proof) l.i (sent_in (l.k + l.i) l.u l.proof)

@@ -29,7 +29,8 @@ pub loop-i-preserved : goal.loop-i-preserved
 loop-i-preserved c = let l = c.loop-i in
     let x = c.args in (
       omega arith,
-      rowing-next x.p x.d x.o (value c.row-r.result.k) x.at.w c.row-r.result.transcript c.row-r.new.proof c.row-r.new.draws c.row-r.new.s l.invariant.1 (omega arith) c.row-r.ensures,
+      rowing-next x.p x.d x.o (value c.row-r.result.k) x.at.w c.row-r.result.transcript c.row-r.new.proof c.row-r.new.draws c.row-r.new.s
+          l.invariant.1 (omega arith) c.row-r.ensures,
     )
 
 pub returns : goal.returns

@@ -36,7 +36,8 @@ rows-v-requires c = let p = c.requires in let one : length c.rows-u.new.s ≡ 4 
 )) in record {
   s_len = (
     ap length
-        (lent-behind c.args.s.now c.rows-u.new.s (4 * c.args.z.wb) (4 * c.args.z.wf) p.blocks one) ∙ rest-length c.args.s.now c.rows-u.new.s (4 * c.args.z.wb) (4 * c.args.z.wf) p.blocks one,
+        (lent-behind c.args.s.now c.rows-u.new.s (4 * c.args.z.wb) (4 * c.args.z.wf) p.blocks one)
+        ∙ rest-length c.args.s.now c.rows-u.new.s (4 * c.args.z.wb) (4 * c.args.z.wf) p.blocks one,
     p.fld_most,
     omega (arith, c.power_words-2.ensures, p.fld_words, pow_mono {i = c.args.z.f} {j = c.args.z.l + c.args.z.f} (omega arith)),
     omega (arith, p.fld_few),
@@ -53,9 +54,12 @@ pub returns : goal.returns
 returns c = let p = c.requires in let one : length c.rows-u.new.s ≡ 4 * c.args.z.wb = c.rows-u.auto.s ∙ length-take-le _ _ (omega (
   arith,
   c.requires.blocks,
-)) in let two : length c.rows-v.new.s ≡ 4 * c.args.z.wf = c.rows-v.auto.s ∙ (ap length (lent-behind c.args.s.now c.rows-u.new.s (4 * c.args.z.wb) (4 * c.args.z.wf) p.blocks
+)) in let two : length c.rows-v.new.s ≡ 4 * c.args.z.wf = c.rows-v.auto.s
+    ∙ (ap length (lent-behind c.args.s.now c.rows-u.new.s (4 * c.args.z.wb) (4 * c.args.z.wf) p.blocks
     one) ∙ rest-length c.args.s.now c.rows-u.new.s (4 * c.args.z.wb) (4 * c.args.z.wf) p.blocks one) in rows_left
     c.args.z.l c.args.z.b c.args.z.f c.args.z.wb c.args.z.wf (omega (arith, c.requires.bin_few)) (omega (
       arith,
       c.requires.fld_few,
-    )) _ _ (value c.args.kb) (value c.args.kf) _ _ c.args.t c.rows-u.result.transcript c.rows-v.result.transcript c.args.proof.now c.args.draws.now c.args.s.now c.rows-u.new.proof c.rows-u.new.draws c.rows-u.new.s c.rows-v.new.proof c.rows-v.new.draws c.rows-v.new.s c.power_words.ensures c.power_words-2.ensures p.blocks one two (rw elements-length (omega (arith, p.draws))) c.rows-u.ensures c.rows-v.ensures
+    )) _ _ (value c.args.kb) (value c.args.kf) _ _ c.args.t c.rows-u.result.transcript c.rows-v.result.transcript c.args.proof.now c.args.draws.now
+    c.args.s.now c.rows-u.new.proof c.rows-u.new.draws c.rows-u.new.s c.rows-v.new.proof c.rows-v.new.draws c.rows-v.new.s c.power_words.ensures
+    c.power_words-2.ensures p.blocks one two (rw elements-length (omega (arith, p.draws))) c.rows-u.ensures c.rows-v.ensures

@@ -15,7 +15,8 @@ pub rows-v-requires : goal.rows-v-requires
 rows-v-requires c = blocks-same c.first-u.auto.proof c.first-u.auto.draws c.first-u.auto.s c.requires
 
 pub end-r-requires : goal.end-r-requires
-end-r-requires c = blocks-same (c.rows-v.auto.proof ∙ c.first-u.auto.proof) (c.rows-v.auto.draws ∙ c.first-u.auto.draws) (c.rows-v.auto.s ∙ c.first-u.auto.s) c.requires
+end-r-requires c = blocks-same (c.rows-v.auto.proof ∙ c.first-u.auto.proof) (c.rows-v.auto.draws ∙ c.first-u.auto.draws) (c.rows-v.auto.s
+    ∙ c.first-u.auto.s) c.requires
 
 pub returns : goal.returns
 returns c = record {
@@ -23,7 +24,8 @@ returns c = record {
     arith,
     c.requires.fld_few,
   )) _ (8 * c.args.z.l + 4 * c.args.z.b + 4 * c.args.z.f) (c.args.z.l + c.args.z.b + (c.args.z.l
-      + c.args.z.f) + c.args.z.l + c.args.z.b + c.args.z.f) (value c.rows-v.result.kb) (value c.rows-v.result.kf) 1 1 (tables_in c.args.z.wb c.args.z.wf (take (4 * c.args.z.wb) c.args.s.now) (drop (4 * c.args.z.wb) c.args.s.now)) c.args.t
+      + c.args.z.f) + c.args.z.l + c.args.z.b + c.args.z.f) (value c.rows-v.result.kb) (value c.rows-v.result.kf) 1 1 (tables_in c.args.z.wb
+      c.args.z.wf (take (4 * c.args.z.wb) c.args.s.now) (drop (4 * c.args.z.wb) c.args.s.now)) c.args.t
       c.rows-v.result.transcript c.rows-v.new.proof c.rows-v.new.draws
       c.rows-v.new.s _ c.first-u.ensures c.rows-v.ensures c.end-r.ensures;
   cleared = c.clear.ensures ∙ ap (λ (n : ℕ). replicate n 0) (c.rows-v.auto.s

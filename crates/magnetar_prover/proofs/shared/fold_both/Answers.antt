@@ -20,7 +20,8 @@ fold-requires-2 c = let x = c.args in
     let p = c.requires in
     let one : length c.fold.new.s ≡ 4 * x.bin.w = c.fold.auto.s ∙ length-take-le _ _ (omega arith) in record {
       s_len = (
-        ap length (lent-behind x.s.now c.fold.new.s (4 * x.bin.w) (4 * x.fld.w) p.s_len.0 one) ∙ rest-length x.s.now c.fold.new.s (4 * x.bin.w) (4 * x.fld.w) p.s_len.0 one,
+        ap length (lent-behind x.s.now c.fold.new.s (4 * x.bin.w) (4 * x.fld.w) p.s_len.0 one)
+            ∙ rest-length x.s.now c.fold.new.s (4 * x.bin.w) (4 * x.fld.w) p.s_len.0 one,
         p.s_len.2,
         p.s_len.4,
       );
@@ -31,7 +32,8 @@ pub returns : goal.returns
 returns c = let x = c.args in
     let p = c.requires in
     let one : length c.fold.new.s ≡ 4 * x.bin.w = c.fold.auto.s ∙ length-take-le _ _ (omega arith) in
-    let two : length c.fold-2.new.s ≡ 4 * x.fld.w = c.fold-2.auto.s ∙ (ap length (lent-behind x.s.now c.fold.new.s (4 * x.bin.w) (4 * x.fld.w) p.s_len.0 one) ∙ rest-length x.s.now c.fold.new.s (4 * x.bin.w) (4 * x.fld.w) p.s_len.0 one) in
+    let two : length c.fold-2.new.s ≡ 4 * x.fld.w = c.fold-2.auto.s ∙ (ap length (lent-behind x.s.now c.fold.new.s (4 * x.bin.w) (4 * x.fld.w)
+    p.s_len.0 one) ∙ rest-length x.s.now c.fold.new.s (4 * x.bin.w) (4 * x.fld.w) p.s_len.0 one) in
     let f = c.fold.ensures in
     let g = c.fold-2.ensures in record {
       bin = front-folded x.s.now c.fold.new.s c.fold-2.new.s (4 * x.bin.w) (4

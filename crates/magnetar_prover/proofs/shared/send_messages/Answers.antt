@@ -56,7 +56,8 @@ returns c = let x = c.args in
     let g = c.message-2.ensures in
     let v = message_in x.bin.v (value x.bin.k) (value x.bin.t) x.bin.w x.bin.n (take (4 * x.bin.w) x.s.now) in
     let w = message_in x.fld.v (value x.fld.k) (value x.fld.t) x.fld.w x.fld.n (drop (4 * x.bin.w) x.s.now) in
-    let so : c.message-2.new.out ≡ words w = g.written ∙ ap (λ (l : List ℕ). words (message_in x.fld.v (value x.fld.k) (value x.fld.t) x.fld.w x.fld.n l)) lent in record {
+    let so : c.message-2.new.out ≡ words w = g.written ∙ ap (λ (l : List ℕ). words (message_in x.fld.v (value x.fld.k) (value x.fld.t) x.fld.w x.fld.n
+    l)) lent in record {
       sent = both-sent x.proof.now c.message.new.out c.message-2.new.out v w x.p p.s_len.6 (outer-four x.bin.v _ _ _ _ _ _) (outer-four x.fld.v _ _ _ _ _ _)
           f.written so;
       there = both-there x.proof.now c.message.new.out c.message-2.new.out v w x.p p.s_len.6 (outer-four x.bin.v _ _ _ _ _ _) (outer-four x.fld.v _ _ _ _ _

@@ -56,6 +56,7 @@ returns c = let x = c.args in
     (transcript.absorbed x.t (numbered "vs-out-shared-" x.i) (word_bytes w)) (numbered "vs-out-shared-" x.i)) (part-is p₁ (2 * x.at.p)
     16 ∙ g.there) in
     rw h.transcript
-    (shared-done x.i x.h x.b x.f x.at.o x.at.q x.at.p x.at.d (value x.bin.k) (value c.end_both.result.kb) (value x.fld.k) (value c.end_both.result.kf) ub uf x.bin.w x.bin.n x.fld.w x.fld.n x.t u x.proof.now p₁ x.draws.now c.end_both.new.draws
+    (shared-done x.i x.h x.b x.f x.at.o x.at.q x.at.p x.at.d (value x.bin.k) (value c.end_both.result.kb) (value x.fld.k) (value c.end_both.result.kf)
+    ub uf x.bin.w x.bin.n x.fld.w x.fld.n x.t u x.proof.now p₁ x.draws.now c.end_both.new.draws
     x.s.now s₁ c.end_both.new.s
     p.shared.0 p.shared.1 p.s_len.3 p.s_len.4 l c.get.ensures c.get-2.ensures transcript-is g.sent h.drawn h.kb h.kf g.bin g.fld h.bin h.fld)

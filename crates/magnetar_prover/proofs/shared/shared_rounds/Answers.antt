@@ -8,7 +8,8 @@ pub loop-i-init : goal.loop-i-init
 loop-i-init c = let x = c.args in let p = c.requires in (
   p.s_len.3,
   p.s_len.4,
-  sharing-start x.x x.b x.f x.at.o x.at.q x.at.p x.at.d (value x.bin.k) (value x.fld.k) x.bin.w x.fld.w x.bin.n x.fld.n x.t x.proof.now x.draws.now x.s.now p.n_value.0 p.n_value.1,
+  sharing-start x.x x.b x.f x.at.o x.at.q x.at.p x.at.d (value x.bin.k) (value x.fld.k) x.bin.w x.fld.w x.bin.n x.fld.n x.t x.proof.now x.draws.now
+      x.s.now p.n_value.0 p.n_value.1,
 )
 
 pub overflow_add-here : goal.overflow_add-here
@@ -44,9 +45,11 @@ loop-i-preserved c = let l = c.loop-i in
     let h : l.i < x.x = c.loop-i-test.true in (
       omega arith,
       omega arith,
-      sharing-next l.invariant.2 h x.at.o x.at.q x.at.p x.at.d (value r.result.kb) (value r.result.kf) x.bin.w x.fld.w r.result.transcript r.new.proof r.new.draws r.new.s r.ensures,
+      sharing-next l.invariant.2 h x.at.o x.at.q x.at.p x.at.d (value r.result.kb) (value r.result.kf) x.bin.w x.fld.w r.result.transcript r.new.proof
+          r.new.draws r.new.s r.ensures,
     )
 
 pub returns : goal.returns
-returns c = let x = c.args in let l = c.loop-i in sharing-end x.x x.b x.f x.at.o x.at.q l.i l.m l.n x.at.p x.at.d (value l.y) (value l.z) x.bin.w x.fld.w _ l.u l.proof l.draws l.s l.invariant.2
+returns c = let x = c.args in let l = c.loop-i in sharing-end x.x x.b x.f x.at.o x.at.q l.i l.m l.n x.at.p x.at.d (value l.y) (value l.z) x.bin.w
+    x.fld.w _ l.u l.proof l.draws l.s l.invariant.2
     (omega arith)

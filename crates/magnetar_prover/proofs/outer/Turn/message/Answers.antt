@@ -15,6 +15,16 @@ returns c = let x = c.args in
     let h : x.self.n ≤ length x.s.now = omega arith in
     let f = eq-behind x.s.now x.self.n x.self.v p.table h c.drop_var-done.new.table c.drop_var-done.ensures.dropped in
     let g = eq-dropped x.s.now x.self.n x.self.v p.table h c.drop_var-done.new.table c.drop_var-done.ensures.dropped in record {
-      written = c.put_message.ensures ∙ rw (g, f x.self.w x.self.n (omega arith), f (2 * x.self.w) x.self.n (omega arith), f (3 * x.self.w) x.self.n (omega arith));
-      dropped = record { dropped = g; kept = eq-rest x.s.now x.self.n x.self.v p.table h c.drop_var-done.new.table c.drop_var-done.ensures.dropped x.self.w (omega arith) };
+      written = c.put_message.ensures ∙ rw (
+        g,
+        f x.self.w x.self.n (omega arith),
+        f (2 * x.self.w) x.self.n (omega arith),
+        f (3 * x.self.w) x.self.n
+            (omega arith),
+      );
+      dropped = record {
+        dropped = g;
+        kept = eq-rest x.s.now x.self.n x.self.v p.table h c.drop_var-done.new.table c.drop_var-done.ensures.dropped
+            x.self.w (omega arith);
+      };
     }
