@@ -19,9 +19,9 @@ pub struct Captured {
 }
 
 // A round that draws its challenge, whose message has n coefficients: the check first, which no challenge is needed for; then the message is
-// absorbed and the challenge drawn, both under the label. A wrong message leaves the claim and the transcript, and so does one that is refused with 11, and a
-// counter of 2^32 or more (14).
-#[tactic(auto, using(crate::proofs::Captured::capturing), unfolding(crate::specs::Capture::capture_outcome, crate::specs::Capture::capture_refusal, magnetar_sumcheck_verifier::specs::Outcome::round_outcome, magnetar_sumcheck_verifier::specs::Outcome::round_refusal))]
+// absorbed and the challenge drawn, both under the label. A wrong message leaves the claim and the transcript, and so does one that is
+// refused with 11, and a counter of 2^32 or more (14).
+#[tactic(auto, using(crate::proofs::Captured::capturing))]
 pub fn round_capturing(
     msg: &[u64],
     n: usize,

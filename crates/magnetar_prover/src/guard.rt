@@ -4,7 +4,8 @@ ghost use Rattle.magnetar_field.specs.Number.{number_of};
 ghost use Rattle.magnetar_layout.specs.Tests.{first_refusal, column_tests, layout_tests, room_test};
 ghost use Rattle.magnetar_protocol.specs.Shape.{sizes_only};
 ghost use Rattle.magnetar_protocol.specs.RunTests.{counter_tests};
-ghost use Rattle.magnetar_prover.specs.Entries.{play_refusal, inner_rounds_refusal, count_tests, total_tests, outer_drawn, outer_sent, block_words, outer_rounds_refusal};
+ghost use Rattle.magnetar_prover.specs.Entries.{play_refusal, inner_rounds_refusal, count_tests, total_tests};
+ghost use Rattle.magnetar_prover.specs.Entries.{outer_drawn, outer_sent, block_words, outer_rounds_refusal};
 
 use magnetar_field::refusal::{Refusal, require};
 use magnetar_field::sizes;
@@ -41,7 +42,8 @@ fn of_room(
     s: &[u64],
     room: usize,
 ) -> Result<(), Refusal>
-    ensures { number_of result ≡ first_refusal 0 (counter_tests t.squeeze_ctr ++ (room_test drawn draws.now ++ room_test sent proof.now ++ room_test room s.now)) }
+    ensures { number_of result
+        ≡ first_refusal 0 (counter_tests t.squeeze_ctr ++ (room_test drawn draws.now ++ room_test sent proof.now ++ room_test room s.now)) }
 {
     of_counter(t)?;
     require(draws.len() >= drawn, Refusal::Room)?;

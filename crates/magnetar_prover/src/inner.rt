@@ -170,10 +170,12 @@ fn send_segment(
     s: &mut [u64],
     t: Transcript,
 ) -> Transcript
-    requires p_bound { (p < 1024) × (2 * p + 2 ≤ length proof.old) × (w ≤ 32768) × (layout_refusal w lens.now ≡ 0) × (i < length lens.now) × (length s.old ≡ 4 * w) }
+    requires p_bound { (p < 1024) × (2 * p + 2 ≤ length proof.old) × (w ≤ 32768) × (layout_refusal w lens.now ≡ 0) × (i < length lens.now)
+        × (length s.old ≡ 4 * w) }
     requires local { Local w (get_or lens.now i 0) (length draws.now) }
     ensures transcript { result ≡ absorbed_one t (numbered "vs-seg-" i) (segment_in lens.now (table_at 0 (2 * w) s.old) (elements draws.now) i) }
-    ensures sent { take (p + 1) (elements proof.new) ≡ take p (elements proof.old) ++ (segment_in lens.now (table_at 0 (2 * w) s.old) (elements draws.now) i ∷ []) }
+    ensures sent { take (p + 1) (elements proof.new)
+        ≡ take p (elements proof.old) ++ (segment_in lens.now (table_at 0 (2 * w) s.old) (elements draws.now) i ∷ []) }
     ensures kept { table_at 0 (2 * w) s.new ≡ table_at 0 (2 * w) s.old }
 {
     let v = segment_value(w, lens, i, draws, s);
@@ -193,9 +195,11 @@ fn send_segments(
     s: &mut [u64],
     t: Transcript,
 ) -> Transcript
-    requires k_bound { (k < 512) × (length lens.now ≤ 64) × (2 * (k + length lens.now) ≤ length proof.old) × (w ≤ 32768) × (layout_refusal w lens.now ≡ 0) × (length s.old ≡ 4 * w) }
+    requires k_bound { (k < 512) × (length lens.now ≤ 64) × (2 * (k + length lens.now) ≤ length proof.old) × (w ≤ 32768)
+        × (layout_refusal w lens.now ≡ 0) × (length s.old ≡ 4 * w) }
     requires locals { Locals w lens.now (length draws.now) }
-    ensures { sent_in (k + length lens.now) result proof.new ≡ sent_each "vs-seg-" 0 (tabulate (segment_in lens.now (table_at 0 (2 * w) s.old) (elements draws.now)) (length lens.now)) (sent_in k t proof.old) }
+    ensures { sent_in (k + length lens.now) result proof.new
+        ≡ sent_each "vs-seg-" 0 (tabulate (segment_in lens.now (table_at 0 (2 * w) s.old) (elements draws.now)) (length lens.now)) (sent_in k t proof.old) }
 {
     let mut u = t;
     for i in 0..lens.len() {
@@ -216,9 +220,11 @@ fn run(
     t: Transcript,
 ) -> Transcript
     requires s_len { (length s.old ≡ 12 * w) × (0 < w) × (w ≤ 32768) × (0 < k) × (k < 18) }
-    requires draws_len { (length draws.old ≡ 2 * k) × (length lens.now ≤ 64) × (length proof.old ≡ 2 * (3 * k + 1 + length lens.now)) × (layout_refusal w lens.now ≡ 0) }
+    requires draws_len { (length draws.old ≡ 2 * k) × (length lens.now ≤ 64) × (length proof.old ≡ 2 * (3 * k + 1 + length lens.now))
+        × (layout_refusal w lens.now ≡ 0) }
     requires w_value { (2 * w ≡ 2 ^ k) × Locals w lens.now (2 * k - 2) }
-    ensures run { steps_in (3 * k + 1 + length lens.now) k result proof.new draws.new ≡ inner_whole k lens.now (table_at 0 (4 * w) s.old) (table_at (4 * w) (2 * w) s.old) (table_at (6 * w) (2 * w) s.old) t }
+    ensures run { steps_in (3 * k + 1 + length lens.now) k result proof.new draws.new
+        ≡ inner_whole k lens.now (table_at 0 (4 * w) s.old) (table_at (4 * w) (2 * w) s.old) (table_at (6 * w) (2 * w) s.old) t }
     ensures cleared { s.new ≡ replicate (length s.old) 0 }
 {
     lay_out(w, s);
@@ -247,9 +253,12 @@ pub fn inner_rounds(
     s: &mut [u64],
     t: Transcript,
 ) -> Result<Transcript, Refusal>
-    ensures answer { answer_of t result ≡ answer_for (inner_rounds_refusal m lens.now proof.old draws.old s.old t) (inner_run_steps (sizes_only m 1 1 1 lens.now) s.old t) t }
-    ensures proof { proof.new ≡ proof_for (inner_rounds_refusal m lens.now proof.old draws.old s.old t) (inner_run_steps (sizes_only m 1 1 1 lens.now) s.old t) proof.old }
-    ensures draws { draws.new ≡ draws_for (inner_rounds_refusal m lens.now proof.old draws.old s.old t) (inner_run_steps (sizes_only m 1 1 1 lens.now) s.old t) draws.old }
+    ensures answer { answer_of t result
+        ≡ answer_for (inner_rounds_refusal m lens.now proof.old draws.old s.old t) (inner_run_steps (sizes_only m 1 1 1 lens.now) s.old t) t }
+    ensures proof { proof.new
+        ≡ proof_for (inner_rounds_refusal m lens.now proof.old draws.old s.old t) (inner_run_steps (sizes_only m 1 1 1 lens.now) s.old t) proof.old }
+    ensures draws { draws.new
+        ≡ draws_for (inner_rounds_refusal m lens.now proof.old draws.old s.old t) (inner_run_steps (sizes_only m 1 1 1 lens.now) s.old t) draws.old }
     ensures scratch { s.new ≡ scratch_for (inner_rounds_refusal m lens.now proof.old draws.old s.old t) (6 * m) s.old }
 {
     guard::of_inner(m, lens, proof, draws, s, t)?;

@@ -41,7 +41,8 @@ impl Turn {
     fn put_message(self, out: &mut [u64], s: &[u64])
         requires s_len { (length s.now ≡ 4 * self.w) × (self.w ≤ 2097152) × (self.n ≤ self.w) × (length out.old ≡ 8) }
         requires table { Table self.v self.n }
-        ensures { out.new ≡ words (outer_message self.v (value self.k) (value self.t) (table_at 0 (self.n / 2) s.now) (table_at self.w self.n s.now) (table_at (2 * self.w) self.n s.now) (table_at (3 * self.w) self.n s.now)) }
+        ensures { out.new ≡ words (outer_message self.v (value self.k) (value self.t) (table_at 0 (self.n / 2) s.now) (table_at self.w self.n s.now)
+            (table_at (2 * self.w) self.n s.now) (table_at (3 * self.w) self.n s.now)) }
     {
         let w = self.w;
         let n = self.n;
@@ -120,9 +121,11 @@ fn row(
     s: &mut [u64],
     t: Transcript,
 ) -> Round
-    requires s_len { (length s.old ≡ 4 * at.w) × (at.w ≤ 2097152) × (at.n ≤ at.w) × (p < 1024) × (2 * p + 8 ≤ length proof.old) × (2 * d + 2 ≤ length draws.old) }
+    requires s_len { (length s.old ≡ 4 * at.w) × (at.w ≤ 2097152) × (at.n ≤ at.w) × (p < 1024) × (2 * p + 8 ≤ length proof.old)
+        × (2 * d + 2 ≤ length draws.old) }
     requires rows { Rows at.n o d }
-    ensures { row_in (p + 4) (d + 1) (o + 1) (value result.k) at.w (at.n / 2) result.transcript proof.new draws.new s.new ≡ row_step (row_label of) i (row_in p d o (value at.k) at.w at.n t proof.old draws.old s.old) }
+    ensures { row_in (p + 4) (d + 1) (o + 1) (value result.k) at.w (at.n / 2) result.transcript proof.new draws.new s.new
+        ≡ row_step (row_label of) i (row_in p d o (value at.k) at.w at.n t proof.old draws.old s.old) }
 {
     let turn = Turn {
         w: at.w,
@@ -152,9 +155,11 @@ pub(crate) fn rows(
     s: &mut [u64],
     t: Transcript,
 ) -> Round
-    requires s_len { (length s.old ≡ 4 * at.w) × (at.w ≤ 2097152) × (at.n ≤ at.w) × (x < 62) × (p < 512) × (d < 512) × (o + x ≤ d) × (2 * (p + 4 * x) ≤ length proof.old) × (2 * (d + x) ≤ length draws.old) }
+    requires s_len { (length s.old ≡ 4 * at.w) × (at.w ≤ 2097152) × (at.n ≤ at.w) × (x < 62) × (p < 512) × (d < 512) × (o + x ≤ d)
+        × (2 * (p + 4 * x) ≤ length proof.old) × (2 * (d + x) ≤ length draws.old) }
     requires n_value { at.n ≡ 2 * 2 ^ x }
-    ensures { row_in (p + 4 * x) (d + x) (o + x) (value result.k) at.w 2 result.transcript proof.new draws.new s.new ≡ row_steps (row_label of) 0 x (row_in p d o (value at.k) at.w at.n t proof.old draws.old s.old) }
+    ensures { row_in (p + 4 * x) (d + x) (o + x) (value result.k) at.w 2 result.transcript proof.new draws.new s.new
+        ≡ row_steps (row_label of) 0 x (row_in p d o (value at.k) at.w at.n t proof.old draws.old s.old) }
 {
     let w = at.w;
     let mut n = at.n;

@@ -32,7 +32,9 @@ struct Sizes {
 // The taus, their eq tables and the shared rounds.
 fn first(z: Sizes, proof: &mut [u64], draws: &mut [u64], s: &mut [u64], t: Transcript) -> Both
     requires { Blocks z.l z.b z.f z.wb z.wf (length proof.old) (length draws.old) (length s.old) }
-    ensures { shared_in (8 * z.l) (z.l + z.b + (z.l + z.f) + z.l) 0 z.b z.f 0 (z.l + z.b) (value result.kb) (value result.kf) z.wb z.wf (2 * 2 ^ z.b) (2 * 2 ^ z.f) result.transcript proof.new draws.new s.new ≡ shared_steps 0 z.l (begin_of z.l z.b (tables_in z.wb z.wf (take (4 * z.wb) s.old) (drop (4 * z.wb) s.old)) (taus_of z.l z.b z.f t)) }
+    ensures { shared_in (8 * z.l) (z.l + z.b + (z.l + z.f) + z.l) 0 z.b z.f 0 (z.l + z.b) (value result.kb) (value result.kf) z.wb z.wf (2 * 2 ^ z.b)
+        (2 * 2 ^ z.f) result.transcript proof.new draws.new s.new
+        ≡ shared_steps 0 z.l (begin_of z.l z.b (tables_in z.wb z.wf (take (4 * z.wb) s.old) (drop (4 * z.wb) s.old)) (taus_of z.l z.b z.f t)) }
 {
     let m = z.l + z.b;
     let n = z.l + z.f;
@@ -76,7 +78,10 @@ fn rows(
     t: Transcript,
 ) -> Both
     requires { Blocks z.l z.b z.f z.wb z.wf (length proof.old) (length draws.old) (length s.old) }
-    ensures { left_in (8 * z.l + 4 * z.b + 4 * z.f) (z.l + z.b + (z.l + z.f) + z.l + z.b + z.f) (value result.kb) (value result.kf) z.wb z.wf result.transcript proof.new draws.new s.new ≡ fld_of z.f (bin_of z.b (shared_in (8 * z.l) (z.l + z.b + (z.l + z.f) + z.l) 0 z.b z.f 0 (z.l + z.b) (value kb) (value kf) z.wb z.wf (2 * 2 ^ z.b) (2 * 2 ^ z.f) t proof.old draws.old s.old)) }
+    ensures { left_in (8 * z.l + 4 * z.b + 4 * z.f) (z.l + z.b + (z.l + z.f) + z.l + z.b + z.f) (value result.kb)
+        (value result.kf) z.wb z.wf result.transcript proof.new draws.new s.new ≡ fld_of z.f
+        (bin_of z.b (shared_in (8 * z.l) (z.l + z.b + (z.l + z.f) + z.l) 0 z.b z.f 0 (z.l + z.b) (value kb) (value kf) z.wb z.wf (2 * 2 ^ z.b) (2 * 2
+        ^ z.f) t proof.old draws.old s.old)) }
 {
     let m = z.l + z.b;
     let p = 8 * z.l;
@@ -116,7 +121,8 @@ fn rows(
 // The terminals are sent, and the alphas drawn.
 fn end(z: Sizes, proof: &mut [u64], draws: &mut [u64], s: &[u64], t: Transcript) -> Transcript
     requires { Blocks z.l z.b z.f z.wb z.wf (length proof.old) (length draws.old) (length s.now) }
-    ensures { steps_in (8 * z.l + 4 * z.b + 4 * z.f + 6) (z.l + z.b + (z.l + z.f) + z.l + z.b + z.f + 6) result proof.new draws.new ≡ end_of (left_in (8 * z.l + 4 * z.b + 4 * z.f) (z.l + z.b + (z.l + z.f) + z.l + z.b + z.f) 1 1 z.wb z.wf t proof.old draws.old s.now) }
+    ensures { steps_in (8 * z.l + 4 * z.b + 4 * z.f + 6) (z.l + z.b + (z.l + z.f) + z.l + z.b + z.f + 6) result proof.new draws.new
+        ≡ end_of (left_in (8 * z.l + 4 * z.b + 4 * z.f) (z.l + z.b + (z.l + z.f) + z.l + z.b + z.f) 1 1 z.wb z.wf t proof.old draws.old s.now) }
 {
     let p = 8 * z.l + 4 * z.b + 4 * z.f;
     let d = z.l + z.b + (z.l + z.f) + z.l + z.b + z.f;
@@ -128,7 +134,8 @@ fn end(z: Sizes, proof: &mut [u64], draws: &mut [u64], s: &[u64], t: Transcript)
 // All of it; the blocks are cleared.
 fn run(z: Sizes, proof: &mut [u64], draws: &mut [u64], s: &mut [u64], t: Transcript) -> Transcript
     requires { Blocks z.l z.b z.f z.wb z.wf (length proof.old) (length draws.old) (length s.old) }
-    ensures run { steps_in (8 * z.l + 4 * z.b + 4 * z.f + 6) (z.l + z.b + (z.l + z.f) + z.l + z.b + z.f + 6) result proof.new draws.new ≡ outer_whole z.l z.b z.f (tables_in z.wb z.wf (take (4 * z.wb) s.old) (drop (4 * z.wb) s.old)) t }
+    ensures run { steps_in (8 * z.l + 4 * z.b + 4 * z.f + 6) (z.l + z.b + (z.l + z.f) + z.l + z.b + z.f + 6) result proof.new draws.new
+        ≡ outer_whole z.l z.b z.f (tables_in z.wb z.wf (take (4 * z.wb) s.old) (drop (4 * z.wb) s.old)) t }
     ensures cleared { s.new ≡ replicate (length s.old) 0 }
 {
     let u = first(z, proof, draws, s, t);

@@ -16,10 +16,14 @@ use magnetar_sumcheck_prover::public;
 
 // The messages of both systems, behind p elements.
 fn send_messages(p: usize, bin: Turn, fld: Turn, proof: &mut [u64], s: &mut [u64])
-    requires s_len { (length s.old ≡ 4 * bin.w + 4 * fld.w) × (bin.w ≤ 2097152) × (fld.w ≤ 2097152) × (bin.n ≤ bin.w) × (fld.n ≤ fld.w) × (p < 1024) × (2 * p + 16 ≤ length proof.old) }
+    requires s_len { (length s.old ≡ 4 * bin.w + 4 * fld.w) × (bin.w ≤ 2097152) × (fld.w ≤ 2097152) × (bin.n ≤ bin.w) × (fld.n ≤ fld.w) × (p < 1024)
+        × (2 * p + 16 ≤ length proof.old) }
     requires table { Table bin.v bin.n × Table fld.v fld.n }
-    ensures sent { take (p + 8) (elements proof.new) ≡ take p (elements proof.old) ++ (message_in bin.v (value bin.k) (value bin.t) bin.w bin.n (take (4 * bin.w) s.old) ++ message_in fld.v (value fld.k) (value fld.t) fld.w fld.n (drop (4 * bin.w) s.old)) }
-    ensures there { take 16 (drop (2 * p) proof.new) ≡ words (message_in bin.v (value bin.k) (value bin.t) bin.w bin.n (take (4 * bin.w) s.old) ++ message_in fld.v (value fld.k) (value fld.t) fld.w fld.n (drop (4 * bin.w) s.old)) }
+    ensures sent { take (p + 8) (elements proof.new) ≡ take p (elements proof.old) ++
+        (message_in bin.v (value bin.k) (value bin.t) bin.w bin.n (take (4 * bin.w) s.old)
+        ++ message_in fld.v (value fld.k) (value fld.t) fld.w fld.n (drop (4 * bin.w) s.old)) }
+    ensures there { take 16 (drop (2 * p) proof.new) ≡ words (message_in bin.v (value bin.k) (value bin.t) bin.w bin.n (take (4 * bin.w) s.old)
+        ++ message_in fld.v (value fld.k) (value fld.t) fld.w fld.n (drop (4 * bin.w) s.old)) }
     ensures bin { Dropped bin.v bin.w bin.n (take (4 * bin.w) s.old) (take (4 * bin.w) s.new) }
     ensures fld { Dropped fld.v fld.w fld.n (drop (4 * bin.w) s.old) (drop (4 * bin.w) s.new) }
 {
@@ -55,7 +59,8 @@ pub(crate) struct Both {
 
 // The challenge of a round is written down at element d, both systems are folded by it, and it is multiplied into their products.
 fn end_both(d: usize, bin: Turn, fld: Turn, draws: &mut [u64], s: &mut [u64], t: Transcript) -> Both
-    requires s_len { (length s.old ≡ 4 * bin.w + 4 * fld.w) × (bin.w ≤ 2097152) × (fld.w ≤ 2097152) × (bin.n ≤ bin.w) × (fld.n ≤ fld.w) × (2 * d + 2 ≤ length draws.old) }
+    requires s_len { (length s.old ≡ 4 * bin.w + 4 * fld.w) × (bin.w ≤ 2097152) × (fld.w ≤ 2097152) × (bin.n ≤ bin.w) × (fld.n ≤ fld.w)
+        × (2 * d + 2 ≤ length draws.old) }
     requires table { Table bin.v bin.n × Table fld.v fld.n }
     ensures transcript { result.transcript ≡ t }
     ensures kb { value result.kb ≡ value bin.k ⊗ (1 ⊕ value bin.t ⊕ value (element t)) }
@@ -98,9 +103,12 @@ fn shared_round(
     s: &mut [u64],
     t: Transcript,
 ) -> Both
-    requires s_len { (length s.old ≡ 4 * bin.w + 4 * fld.w) × (bin.w ≤ 2097152) × (fld.w ≤ 2097152) × (bin.n ≤ bin.w) × (fld.n ≤ fld.w) × (at.p < 1024) × (2 * at.p + 16 ≤ length proof.old) × (2 * at.d + 2 ≤ length draws.old) }
+    requires s_len { (length s.old ≡ 4 * bin.w + 4 * fld.w) × (bin.w ≤ 2097152) × (fld.w ≤ 2097152) × (bin.n ≤ bin.w) × (fld.n ≤ fld.w) × (at.p < 1024)
+        × (2 * at.p + 16 ≤ length proof.old) × (2 * at.d + 2 ≤ length draws.old) }
     requires shared { Shared h b bin.n at.o at.d × Shared h f fld.n at.q at.d }
-    ensures { shared_in (at.p + 8) (at.d + 1) (h - 1) b f at.o at.q (value result.kb) (value result.kf) bin.w fld.w (bin.n / 2) (fld.n / 2) result.transcript proof.new draws.new s.new ≡ shared_step i (shared_in at.p at.d h b f at.o at.q (value bin.k) (value fld.k) bin.w fld.w bin.n fld.n t proof.old draws.old s.old) }
+    ensures { shared_in (at.p + 8) (at.d + 1) (h - 1) b f at.o at.q (value result.kb) (value result.kf) bin.w fld.w (bin.n / 2)
+        (fld.n / 2) result.transcript proof.new draws.new s.new
+        ≡ shared_step i (shared_in at.p at.d h b f at.o at.q (value bin.k) (value fld.k) bin.w fld.w bin.n fld.n t proof.old draws.old s.old) }
 {
     let vb = h + b - 1;
     let vf = h + f - 1;
@@ -138,9 +146,13 @@ pub(crate) fn shared_rounds(
     s: &mut [u64],
     t: Transcript,
 ) -> Both
-    requires s_len { (length s.old ≡ 4 * bin.w + 4 * fld.w) × (bin.w ≤ 2097152) × (fld.w ≤ 2097152) × (bin.n ≤ bin.w) × (fld.n ≤ fld.w) × (x + b < 62) × (x + f < 62) × (at.p < 512) × (at.d < 512) × (at.o + (x + b) ≤ at.d) × (at.q + (x + f) ≤ at.d) × (2 * (at.p + 8 * x) ≤ length proof.old) × (2 * (at.d + x) ≤ length draws.old) }
+    requires s_len { (length s.old ≡ 4 * bin.w + 4 * fld.w) × (bin.w ≤ 2097152) × (fld.w ≤ 2097152) × (bin.n ≤ bin.w) × (fld.n ≤ fld.w) × (x + b < 62)
+        × (x + f < 62) × (at.p < 512) × (at.d < 512) × (at.o + (x + b) ≤ at.d) × (at.q + (x + f) ≤ at.d) × (2 * (at.p + 8 * x) ≤ length proof.old)
+        × (2 * (at.d + x) ≤ length draws.old) }
     requires n_value { (bin.n ≡ 2 * 2 ^ (x + b)) × (fld.n ≡ 2 * 2 ^ (x + f)) }
-    ensures { shared_in (at.p + 8 * x) (at.d + x) 0 b f at.o at.q (value result.kb) (value result.kf) bin.w fld.w (2 * 2 ^ b) (2 * 2 ^ f) result.transcript proof.new draws.new s.new ≡ shared_steps 0 x (shared_in at.p at.d x b f at.o at.q (value bin.k) (value fld.k) bin.w fld.w bin.n fld.n t proof.old draws.old s.old) }
+    ensures { shared_in (at.p + 8 * x) (at.d + x) 0 b f at.o at.q (value result.kb) (value result.kf) bin.w fld.w (2 * 2 ^ b)
+        (2 * 2 ^ f) result.transcript proof.new draws.new s.new
+        ≡ shared_steps 0 x (shared_in at.p at.d x b f at.o at.q (value bin.k) (value fld.k) bin.w fld.w bin.n fld.n t proof.old draws.old s.old) }
 {
     let wb = bin.w;
     let wf = fld.w;

@@ -58,7 +58,8 @@ pub fn eq_next(k: Gf128, t: Gf128, r: Gf128) -> Gf128
 // 11: not as many challenges as elements of tau, an odd number of words, or more high variables than there are.
 #[tactic(auto, using(magnetar_multilinear::proofs::Refusals::answer_handed), unfolding(crate::specs::Entries::points_refusal))]
 pub fn eq_points(tau: &[u64], challenges: &[u64], high: usize) -> Result<Gf128, Refusal>
-    ensures { answer result ≡ answered (points_refusal (length tau.now) (length challenges.now) high) (eq_points (elements tau.now) (point high (elements challenges.now))) }
+    ensures { answer result
+        ≡ answered (points_refusal (length tau.now) (length challenges.now) high) (eq_points (elements tau.now) (point high (elements challenges.now))) }
 {
     let n = tau.len() / 2;
     require(tau.len() % 2 == 0, Refusal::Length)?;

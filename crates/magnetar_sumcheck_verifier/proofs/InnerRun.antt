@@ -133,7 +133,8 @@ module _ (b n : ℕ) (t z : List ℕ) (lt : length t ≡ 2 ^ suc n) (lz : length
           (λ i h. element-⊗ (at₀ 0 t i) (at₀ 0 z i))
 
       c₁ : element (sum_below (2 ^ n) (λ i. at₀ 0 t i ⊗ slope 0 z i ⊕ slope 0 t i ⊗ at₀ 0 z i))
-          ≡ sum_f gf128 (λ i. element_sum (element_product (lo t i) (element_sum (lo z i) (hi z i))) (element_product (element_sum (lo t i) (hi t i)) (lo z i))) (2 ^ n)
+          ≡ sum_f gf128 (λ i. element_sum (element_product (lo t i) (element_sum (lo z i) (hi z i))) (element_product (element_sum (lo t i) (hi t i))
+          (lo z i))) (2 ^ n)
       c₁ = unfold lo in element-sum (λ i. at₀ 0 t i ⊗ slope 0 z i ⊕ slope 0 t i ⊗ at₀ 0 z i)
           (λ i. element_sum (element_product (lo t i) (element_sum (lo z i) (hi z i))) (element_product (element_sum (lo t i) (hi t i)) (lo z i))) (2 ^ n)
           (λ i h. element-⊕ (at₀ 0 t i ⊗ slope 0 z i) (slope 0 t i ⊗ at₀ 0 z i)
@@ -147,7 +148,8 @@ module _ (b n : ℕ) (t z : List ℕ) (lt : length t ≡ 2 ^ suc n) (lz : length
 
       poly : (m k : ℕ) → k ≡ suc m → poly_all gf128 (inner_cells gf128) (tabulate pair_of k)
           ≡ sum_f gf128 (λ i. element_product (lo t i) (lo z i)) k ∷ sum_f gf128
-          (λ i. element_sum (element_product (lo t i) (element_sum (lo z i) (hi z i))) (element_product (element_sum (lo t i) (hi t i)) (lo z i))) k ∷ sum_f gf128
+          (λ i. element_sum (element_product (lo t i) (element_sum (lo z i) (hi z i))) (element_product (element_sum (lo t i) (hi t i)) (lo z i))) k ∷
+          sum_f gf128
           (λ i. element_product (element_sum (lo t i) (hi t i)) (element_sum (lo z i) (hi z i))) k ∷ []
       poly m k e = rw e (inner-poly gf128 gf128_laws m (lo t) (hi t) (lo z) (hi z))
 

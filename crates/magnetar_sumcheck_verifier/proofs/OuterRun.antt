@@ -269,7 +269,8 @@ module _ (S : Outer) (T : State gf128 (outer_cells gf128)) (C : Stands S T) (n :
       ∙ ap₂ element_product (element-at₀ S.a i) (element-at₀ S.b i)) (element-at₀ S.c i)
 
   element-second : (i : ℕ) → element (coefficient₁ (outer_var S) S.a S.b S.c i)
-      ≡ element_sum (element_sum (element_product (lo S.a i) (element_sum (lo S.b i) (hi S.b i))) (element_product (element_sum (lo S.a i) (hi S.a i)) (lo S.b i)))
+      ≡ element_sum (element_sum (element_product (lo S.a i) (element_sum (lo S.b i) (hi S.b i))) (element_product (element_sum (lo S.a i) (hi S.a i))
+      (lo S.b i)))
       (element_sum (lo S.c i) (hi S.c i))
   unfolding coefficient₁
   element-second i = element-⊕ (at₀ (outer_var S) S.a i ⊗ slope (outer_var S) S.b i ⊕ slope (outer_var S) S.a i ⊗ at₀ (outer_var S)
@@ -307,10 +308,12 @@ module _ (S : Outer) (T : State gf128 (outer_cells gf128)) (C : Stands S T) (n :
       p₀ = element-⊗ k ((1 ⊕ t) ⊗ x) ∙ ap (element_product (element k)) (element-⊗ (1 ⊕ t) x
           ∙ ap (λ (w : Element). element_product w (element x)) (element-⊕ 1 t))
 
-      p₁ : element (k ⊗ ((1 ⊕ t) ⊗ y ⊕ x)) ≡ element_product (element k) (element_sum (element_product (element_sum (element 1) (element t)) (element y)) (element x))
+      p₁ : element (k ⊗ ((1 ⊕ t) ⊗ y ⊕ x)) ≡ element_product (element k) (element_sum (element_product (element_sum (element 1) (element t)) (element
+          y)) (element x))
       p₁ = element-⊗ k ((1 ⊕ t) ⊗ y ⊕ x) ∙ ap (element_product (element k)) (line₁ y x)
 
-      p₂ : element (k ⊗ ((1 ⊕ t) ⊗ z ⊕ y)) ≡ element_product (element k) (element_sum (element_product (element_sum (element 1) (element t)) (element z)) (element y))
+      p₂ : element (k ⊗ ((1 ⊕ t) ⊗ z ⊕ y)) ≡ element_product (element k) (element_sum (element_product (element_sum (element 1) (element t)) (element
+          z)) (element y))
       p₂ = element-⊗ k ((1 ⊕ t) ⊗ z ⊕ y) ∙ ap (element_product (element k)) (line₁ z y)
 
   positive : (m : ℕ) × (2 ^ n ≡ suc m)

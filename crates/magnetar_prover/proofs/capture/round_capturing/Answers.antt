@@ -5,6 +5,14 @@ use Rattle.magnetar_prover.specs.Capture.{capture_outcome, capture_refusal, next
 use Rattle.magnetar_prover.proofs.Captured.{capturing}
 use Rattle.magnetar_prover.proofs.capture.round_capturing.Goals as goal
 
+pub returns-in_err-first : goal.returns-in_err-first
+unfolding round_outcome round_refusal capture_outcome capture_refusal
+returns-in_err-first c = grind (arith, capturing)
+
+pub returns-in_err-require : goal.returns-in_err-require
+unfolding round_outcome round_refusal capture_outcome capture_refusal
+returns-in_err-require c = grind (arith, capturing)
+
 pub returns-in_err-round : goal.returns-in_err-round
 unfolding round_outcome round_refusal
 returns-in_err-round c = grind (arith, capturing)
