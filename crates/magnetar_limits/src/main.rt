@@ -6,115 +6,114 @@
 mod filled;
 mod runs;
 mod tables;
-mod text;
+mod told;
 
-use crate::text::{Out, print};
+use crate::filled::{Batch, Relation};
+use magnetar_replay::show::Out;
+use std::alloc::Global;
 use std::io;
 use std::io::{BufWriter, Write};
 
 const M: usize = 65536;
 
-// The functions that prove nothing, on q logins.
-fn single(
-    stdout: &mut Out,
-    m: usize,
-    q: usize,
-    packed: &[u64],
-    x: &[u64],
-    out: &mut [u64],
-    scratch: &mut [u64],
-) -> io::Result<()> {
-    tables::products(stdout, m, q, packed, x)?;
-    tables::fold(stdout, m, q, packed, out)?;
-    tables::combined(stdout, m, out, scratch)
-}
-
 // The row checks and both ends.
 fn whole(
-    stdout: &mut Out,
-    m: usize,
-    q: usize,
-    packed: &[u64],
-    x: &[u64],
+    alloc: Global,
+    out: &mut Out,
+    relation: &Relation,
+    batch: Batch<'_>,
     scratch: &mut [u64],
 ) -> io::Result<()> {
-    runs::checks(stdout, m, q, packed, x, scratch)?;
-    runs::ends(stdout, m, q, packed, x, scratch)
+    runs::checks(out, relation, batch, scratch)?;
+    runs::ends(alloc, out, relation, batch, scratch)
 }
 
-// All six on q logins.
+// All six functions.
 fn all(
-    stdout: &mut Out,
-    m: usize,
-    q: usize,
-    packed: &[u64],
-    x: &[u64],
-    out: &mut [u64],
+    alloc: Global,
+    out: &mut Out,
+    relation: &Relation,
+    batch: Batch<'_>,
+    table: &mut [u64],
     scratch: &mut [u64],
 ) -> io::Result<()> {
-    print(stdout, b"m ")?;
-    text::count(stdout, m)?;
-    print(stdout, b", q ")?;
-    text::count(stdout, q)?;
-    print(stdout, b"\n")?;
-    single(stdout, m, q, packed, x, out, scratch)?;
-    whole(stdout, m, q, packed, x, scratch)
+    let m = batch.m;
+    let q = batch.q;
+    writeln!(out, "m {m}, q {q}")?;
+    tables::products(out, relation, batch)?;
+    tables::fold(out, batch, table)?;
+    tables::combined(out, relation, m, table, scratch)?;
+    whole(alloc, out, relation, batch, scratch)
 }
 
-// The last bit of the first login is not set: row 0 of bin fails.
-fn wrong(stdout: &mut Out, q: usize, x: &[u64], scratch: &mut [u64]) -> io::Result<()> {
-    let mut packed = filled::packed();
-    filled::flip(&mut packed, 511);
-    print(stdout, b"the last bit of login 0 is not set\n")?;
-    whole(stdout, M, q, filled::logins(&packed, q), x, scratch)
-}
-
-// q logins as they are filled, then with that bit.
+// q logins as they are filled; then the last bit of the first login is not set: row 0 of bin fails.
 fn both(
-    stdout: &mut Out,
+    alloc: Global,
+    out: &mut Out,
+    relation: &Relation,
     q: usize,
     x: &[u64],
-    out: &mut [u64],
+    table: &mut [u64],
     scratch: &mut [u64],
 ) -> io::Result<()> {
-    let packed = filled::packed();
-    all(stdout, M, q, filled::logins(&packed, q), x, out, scratch)?;
-    wrong(stdout, q, x, scratch)
-}
-
-// Twice the columns.
-fn past(stdout: &mut Out, x: &[u64], out: &mut [u64], scratch: &mut [u64]) -> io::Result<()> {
-    let packed = filled::packed();
-    all(stdout, 2 * M, 1, &packed, x, out, scratch)
-}
-
-// Both logins; the words of the second one's public columns go on where those of the first one end.
-fn own(stdout: &mut Out, x: &[u64], scratch: &mut [u64]) -> io::Result<()> {
-    let packed = filled::packed();
-    print(stdout, b"each login its own public columns\n")?;
-    tables::products(stdout, M, 2, &packed, x)?;
-    whole(stdout, M, 2, &packed, x, scratch)
-}
-
-// One login and two with the same public columns.
-fn equal(stdout: &mut Out, x: &[u64], out: &mut [u64], scratch: &mut [u64]) -> io::Result<()> {
-    both(stdout, 1, filled::logins(x, 1), out, scratch)?;
-    both(stdout, 2, x, out, scratch)
-}
-
-fn run(stdout: &mut Out, x: &mut [u64], out: &mut [u64], scratch: &mut [u64]) -> io::Result<()> {
-    filled::repeated(x);
-    equal(stdout, x, out, scratch)?;
-    filled::fill(x, 1, filled::STEP);
-    own(stdout, x, scratch)?;
-    past(stdout, x, out, scratch)
+    let mut packed = filled::packed(alloc)?;
+    let batch = Batch {
+        m: M,
+        q,
+        packed: filled::logins(packed.as_slice(), q),
+        x,
+    };
+    all(alloc, out, relation, batch, table, scratch)?;
+    filled::flip(packed.as_mut_slice(), 511);
+    writeln!(out, "the last bit of login 0 is not set")?;
+    let batch = Batch {
+        m: M,
+        q,
+        packed: filled::logins(packed.as_slice(), q),
+        x,
+    };
+    whole(alloc, out, relation, batch, scratch)
 }
 
 fn main(rt: HostRuntime) -> io::Result<()> {
-    let mut stdout = BufWriter::new(rt.alloc(), rt.stdout())?;
-    let mut x = vec![in rt.alloc(); 0u64; 131068]?;
-    let mut out = vec![in rt.alloc(); 0u64; 131072]?;
-    let mut scratch = vec![in rt.alloc(); 0u64; 524416]?;
-    run(&mut stdout, &mut x, &mut out, &mut scratch)?;
-    stdout.flush()
+    let alloc = rt.alloc();
+    let mut out = BufWriter::new(alloc, rt.stdout())?;
+    let relation = Relation::new(alloc)?;
+    let packed = filled::packed(alloc)?;
+    let packed = packed.as_slice();
+    let mut table = vec![in alloc; 0u64; 131072]?;
+    let table = table.as_mut_slice();
+    let mut scratch = vec![in alloc; 0u64; 524416]?;
+    let scratch = scratch.as_mut_slice();
+    let same = filled::repeated(alloc)?;
+    let same = same.as_slice();
+    both(
+        alloc,
+        &mut out,
+        &relation,
+        1,
+        filled::logins(same, 1),
+        table,
+        scratch,
+    )?;
+    both(alloc, &mut out, &relation, 2, same, table, scratch)?;
+    let own = filled::own(alloc)?;
+    let x = own.as_slice();
+    let batch = Batch {
+        m: M,
+        q: 2,
+        packed,
+        x,
+    };
+    writeln!(out, "each login its own public columns")?;
+    tables::products(&mut out, &relation, batch)?;
+    whole(alloc, &mut out, &relation, batch, scratch)?;
+    let past = Batch {
+        m: 2 * M,
+        q: 1,
+        packed,
+        x,
+    };
+    all(alloc, &mut out, &relation, past, table, scratch)?;
+    out.flush()
 }

@@ -1,250 +1,147 @@
 // The row check, the prover and the verifier.
-ghost use Rattle.std.specs.Prelude.{◌<◌};
-
-use crate::filled::MARK;
-use crate::text::{Out, print};
-use crate::{filled, text};
+use crate::filled;
+use crate::filled::{Batch, Relation};
+use crate::told::{Digest, Next};
 use magnetar_check::check;
 use magnetar_check::check::RowCheck;
-use magnetar_hash::transcript::TranscriptAnswer;
+use magnetar_replay::show::{MARK, Out};
+use magnetar_replay::{line, show};
 use magnetar_spartan::virtual_spartan;
+use std::alloc::Global;
 use std::io;
-
-fn say_place(stdout: &mut Out, u: usize, i: usize) -> io::Result<()> {
-    text::count(stdout, u)?;
-    print(stdout, b" ")?;
-    text::count(stdout, i)
-}
-
-fn say_verdict(stdout: &mut Out, r: RowCheck) -> io::Result<()> {
-    match r {
-        RowCheck::Good => print(stdout, b"good"),
-        RowCheck::Stray(u, y) => {
-            print(stdout, b"stray ")?;
-            say_place(stdout, u, y)
-        }
-        RowCheck::Bin(u, i) => {
-            print(stdout, b"bin ")?;
-            say_place(stdout, u, i)
-        }
-        RowCheck::Fld(u, i) => {
-            print(stdout, b"fld ")?;
-            say_place(stdout, u, i)
-        }
-        RowCheck::Refused(n) => text::code(stdout, n),
-    }
-}
+use std::io::Write;
 
 // The row check with these segments, after what it is called.
 fn check(
-    stdout: &mut Out,
-    name: &[u8],
-    m: usize,
-    q: usize,
+    out: &mut Out,
+    name: &str,
+    relation: &Relation,
+    batch: Batch<'_>,
     lens: &[usize],
-    packed: &[u64],
-    x: &[u64],
     scratch: &mut [u64],
 ) -> io::Result<()> {
-    let row = filled::rows();
-    let col = filled::cols();
-    let lo = filled::lows();
-    let hi = filled::highs();
-    filled::fill(scratch, MARK, 0);
-    let r = check::row_check(
-        scratch,
-        m,
-        q,
-        lens,
-        filled::shapes(m),
-        &row,
-        &col,
-        &lo,
-        &hi,
-        packed,
-        x,
-    );
-    print(stdout, name)?;
-    say_verdict(stdout, r)?;
-    text::words(stdout, b"scratch", scratch)?;
-    print(stdout, b"\n")
+    scratch.fill(MARK);
+    let entries = relation.entries();
+    let shapes = filled::shapes(batch.m);
+    let (m, q) = (batch.m, batch.q);
+    let found = check::row_check(scratch, m, q, lens, shapes, &entries, batch.packed, batch.x);
+    write!(out, "  {name} ")?;
+    match found {
+        Ok(RowCheck::Good) => write!(out, "good")?,
+        Ok(RowCheck::Stray(login, column)) => write!(out, "stray {login} {column}")?,
+        Ok(RowCheck::Bin(login, row)) => write!(out, "bin {login} {row}")?,
+        Ok(RowCheck::Fld(login, row)) => write!(out, "fld {login} {row}")?,
+        Err(refusal) => {
+            let number = refusal.number();
+            write!(out, "{number}")?;
+        }
+    }
+    let scratch = Digest(scratch);
+    writeln!(out, ", scratch {scratch}")
 }
 
 // The row check; then with segments that leave out the last column.
 pub(crate) fn checks(
-    stdout: &mut Out,
-    m: usize,
-    q: usize,
-    packed: &[u64],
-    x: &[u64],
+    out: &mut Out,
+    relation: &Relation,
+    batch: Batch<'_>,
     scratch: &mut [u64],
 ) -> io::Result<()> {
     check(
-        stdout,
-        b"  row check       ",
-        m,
-        q,
+        out,
+        "row check      ",
+        relation,
+        batch,
         &filled::SEGMENTS,
-        packed,
-        x,
         scratch,
     )?;
     check(
-        stdout,
-        b"  last column out ",
-        m,
-        q,
+        out,
+        "last column out",
+        relation,
+        batch,
         &filled::SHORT,
-        packed,
-        x,
         scratch,
-    )
-}
-
-// What a run answers, and the transcript after it.
-fn say_run(stdout: &mut Out, r: TranscriptAnswer) -> io::Result<()> {
-    text::code(stdout, r.code)?;
-    print(stdout, b", transcript ")?;
-    text::drawn(stdout, r.transcript)
-}
-
-fn proved(
-    m: usize,
-    q: usize,
-    packed: &[u64],
-    x: &[u64],
-    proof: &mut [u64],
-    claims: &mut [u64],
-    scratch: &mut [u64],
-) -> TranscriptAnswer {
-    let row = filled::rows();
-    let col = filled::cols();
-    let lo = filled::lows();
-    let hi = filled::highs();
-    virtual_spartan::prove_virtual_spartan(
-        proof,
-        claims,
-        scratch,
-        m,
-        q,
-        &filled::SEGMENTS,
-        filled::shapes(m),
-        &row,
-        &col,
-        &lo,
-        &hi,
-        packed,
-        x,
-        filled::start(),
     )
 }
 
 fn prove(
-    stdout: &mut Out,
-    m: usize,
-    q: usize,
-    packed: &[u64],
-    x: &[u64],
+    out: &mut Out,
+    relation: &Relation,
+    batch: Batch<'_>,
     proof: &mut [u64],
     scratch: &mut [u64],
 ) -> io::Result<()> {
     let mut claims = [MARK; 40];
-    filled::fill(scratch, MARK, 0);
-    let r = proved(m, q, packed, x, proof, &mut claims, scratch);
-    print(stdout, b"  prove           ")?;
-    say_run(stdout, r)?;
-    text::words(stdout, b"proof", proof)?;
-    text::words(stdout, b"claims", &claims)?;
-    text::words(stdout, b"scratch", scratch)?;
-    print(stdout, b"\n")
-}
-
-fn verified(
-    claims: &mut [u64],
-    scratch: &mut [u64],
-    m: usize,
-    q: usize,
-    x: &[u64],
-    proof: &[u64],
-) -> TranscriptAnswer {
-    let row = filled::rows();
-    let col = filled::cols();
-    let lo = filled::lows();
-    let hi = filled::highs();
-    virtual_spartan::verify_virtual_spartan(
-        claims,
-        scratch,
-        m,
-        q,
-        &filled::SEGMENTS,
-        filled::shapes(m),
-        &row,
-        &col,
-        &lo,
-        &hi,
-        x,
+    scratch.fill(MARK);
+    let entries = relation.entries();
+    let proved = virtual_spartan::prove_virtual_spartan(
         proof,
+        &mut claims,
+        scratch,
+        batch.m,
+        batch.q,
+        &filled::SEGMENTS,
+        filled::shapes(batch.m),
+        &entries,
+        batch.packed,
+        batch.x,
         filled::start(),
-    )
+    );
+    let number = show::code(proved);
+    let next = Next(proved.unwrap_or(filled::start()));
+    let proof = Digest(proof);
+    let claims = Digest(&claims);
+    let scratch = Digest(scratch);
+    write!(
+        out,
+        "  prove           {number}, transcript {next}, proof {proof}"
+    )?;
+    writeln!(out, ", claims {claims}, scratch {scratch}")
 }
 
 fn verify(
-    stdout: &mut Out,
-    m: usize,
-    q: usize,
-    x: &[u64],
+    out: &mut Out,
+    relation: &Relation,
+    batch: Batch<'_>,
     proof: &[u64],
     scratch: &mut [u64],
 ) -> io::Result<()> {
     let mut claims = [MARK; 40];
-    filled::fill(scratch, MARK, 0);
-    let r = verified(&mut claims, scratch, m, q, x, proof);
-    print(stdout, b"  verify          ")?;
-    say_run(stdout, r)?;
-    text::words(stdout, b"claims", &claims)?;
-    text::words(stdout, b"scratch", scratch)?;
-    print(stdout, b"\n")
-}
-
-// As many words as a proof of one login or of two has.
-fn length(q: usize) -> usize
-    ensures { 0 < result }
-{
-    if q == 1 { 140 } else { 156 }
-}
-
-// Both ends; then the verifier again, with a bit of the last segment's value turned.
-fn both(
-    stdout: &mut Out,
-    m: usize,
-    q: usize,
-    packed: &[u64],
-    x: &[u64],
-    proof: &mut [u64],
-    scratch: &mut [u64],
-) -> io::Result<()> {
-    prove(stdout, m, q, packed, x, proof, scratch)?;
-    verify(stdout, m, q, x, proof, scratch)?;
-    filled::flip(proof, length(q) - 1);
-    verify(stdout, m, q, x, proof, scratch)
-}
-
-pub(crate) fn ends(
-    stdout: &mut Out,
-    m: usize,
-    q: usize,
-    packed: &[u64],
-    x: &[u64],
-    scratch: &mut [u64],
-) -> io::Result<()> {
-    let mut room = [MARK; 156];
-    both(
-        stdout,
-        m,
-        q,
-        packed,
-        x,
-        filled::front(&mut room, length(q)),
+    scratch.fill(MARK);
+    let entries = relation.entries();
+    let verified = virtual_spartan::verify_virtual_spartan(
+        &mut claims,
         scratch,
-    )
+        batch.m,
+        batch.q,
+        &filled::SEGMENTS,
+        filled::shapes(batch.m),
+        &entries,
+        batch.x,
+        proof,
+        filled::start(),
+    );
+    let number = show::code(verified.outcome);
+    let next = Next(verified.transcript);
+    let claims = Digest(&claims);
+    let scratch = Digest(scratch);
+    write!(out, "  verify          {number}, transcript {next}")?;
+    writeln!(out, ", claims {claims}, scratch {scratch}")
+}
+
+// Both ends; then the verifier again, with a bit of the last segment's value turned. A proof of one login has 140 words, one of two 156.
+pub(crate) fn ends(
+    alloc: Global,
+    out: &mut Out,
+    relation: &Relation,
+    batch: Batch<'_>,
+    scratch: &mut [u64],
+) -> io::Result<()> {
+    let length = if batch.q == 1 { 140 } else { 156 };
+    let mut proof = line::marked(alloc, length)?;
+    prove(out, relation, batch, proof.as_mut_slice(), scratch)?;
+    verify(out, relation, batch, proof.as_slice(), scratch)?;
+    filled::flip(proof.as_mut_slice(), length - 1);
+    verify(out, relation, batch, proof.as_slice(), scratch)
 }
