@@ -4,7 +4,10 @@ use mathlib.Core.Path.{◌≡◌, refl, sym, ap, ◌∙◌}
 use mathlib.Core.Bool.{Bool, true, false}
 use mathlib.Core.List.{List, [], ◌∷◌, ◌++◌}
 use Prim.Native.Nat.{ℕ, zero, suc, ◌+◌, ◌-◌, ◌*◌, ◌/◌, ◌^◌, ◌≤◌, ◌<◌}
-use native.Mathlib.Nat.{div-add-mod', mod-lt, le_refl, le_trans, lt_of_not-le, pow-suc, two-pow-succ}
+use Rattle.std.specs.Int.{div_ceil, next_multiple_of}
+use Rattle.std.proofs.lemmas.Nat.{div-mul-add}
+use Prim.Native.Nat.{min, ◌%◌}
+use native.Mathlib.Nat.{div-add-mod', mod_self, mod-eq_of_lt, mod-lt, le_refl, le_trans, lt_of_not-le, pow-suc, two-pow-succ}
 use native.Mathlib.Numerals.{add-one}
 use native.Mathlib.Omega.{arith}
 use borrow.Author.Tests.{ltb-true, leb-true, leb-false, le-leb, lt-leb, ltb-false, eqb-true, eqb-false, eq-eqb, ne_eqb, not-false}
@@ -78,6 +81,29 @@ module _ (c n : ℕ) (pos : 0 < n) where
   pub next-most : next_multiple c n < c + n
   unfolding next_multiple
   next-most = omega (arith, div-add-mod' (c + (n - 1)) n)
+
+-- std's words for it, and for the number of the place that it is
+pub ceil-is : (c n : ℕ) → 0 < n → div_ceil c n ≡ (c + (n - 1)) / n
+ceil-is c n h = go (c % n) refl
+  where
+    go : (r : ℕ) → c % n ≡ r → c / n + min 1 r ≡ (c + (n - 1)) / n
+    go zero e =
+        let k : c + (n - 1) ≡ c / n * n + (n - 1) = omega (arith, div-add-mod' c n) in
+        rw (k, div-mul-add (c / n) n (n - 1) (omega arith)) (omega arith)
+    go (suc r) e =
+        let k : c + (n - 1) ≡ (c / n + 1) * n + r = omega (arith, div-add-mod' c n) in
+        rw (k, div-mul-add (c / n + 1) n r (omega (arith, mod-lt c h))) (omega arith)
+
+pub multiple-of-is : (c n : ℕ) → 0 < n → next_multiple_of c n ≡ next_multiple c n
+unfolding next_multiple
+multiple-of-is c n h = go (c % n) refl ∙ ap (λ (k : ℕ). k * n) (ceil-is c n h)
+  where
+    go : (r : ℕ) → c % n ≡ r → c + (n - r) % n ≡ div_ceil c n * n
+    go zero e = let z : n - 0 ≡ n = omega arith in rw (e, z, mod_self n) (omega (arith, div-add-mod' c n))
+    go (suc r) e =
+        let s : n - suc r < n = omega arith in
+        let m : min 1 (suc r) ≡ 1 = omega arith in
+        rw (e, mod-eq_of_lt s, m) (omega (arith, div-add-mod' c n, mod-lt c h))
 
 -- ---- a length
 module _ (w n : ℕ) (e : is_length w n ≡ true) where

@@ -1,9 +1,9 @@
 // The layout of the segments over the witness columns: each segment starts at the next multiple of its length. A layout is
 // its w witness columns and the lengths of its segments, in their order.
-ghost use Rattle.std.specs.Prelude.{◌≡◌, true, ◌++◌, ◌+◌, ◌*◌, ◌<◌, ◌≤◌, ltb, length, drop};
+ghost use Rattle.std.specs.Prelude.{◌≡◌, true, ◌++◌, ◌+◌, ◌*◌, ◌<◌, ◌≤◌, ltb, length, take, drop, get_or};
 ghost use Rattle.magnetar_field.specs.Number.{number_of};
 ghost use Rattle.magnetar_layout.specs.Every.{every};
-ghost use Rattle.magnetar_layout.specs.Layout.{next_multiple, is_length, layout_end, offsets, offset, local_vars, suffix_bits, suffix, LayoutFits};
+ghost use Rattle.magnetar_layout.specs.Layout.{is_length, layout_end, offsets, offset, local_vars, suffix_bits, suffix, LayoutFits};
 ghost use Rattle.magnetar_layout.specs.Entries.{layout_refusal, build_refusal, build_out, read, read_of, read_vars, vars_of, segment_part};
 
 use crate::limits::{MOST_SEGMENTS, MOST_WITNESS};
@@ -11,23 +11,15 @@ use crate::tests;
 use magnetar_field::refusal::{Refusal, require};
 use magnetar_field::sizes;
 
-// The least multiple of n that is not below c.
-fn next_multiple(c: usize, n: usize) -> usize
-    requires { (0 < n) × (c ≤ 65536) × (n ≤ 65536) }
-    ensures { result ≡ next_multiple c n }
-{
-    (c + (n - 1)) / n * n
-}
-
 // The segments end past w columns.
 fn ends_past(w: usize, lens: &[usize]) -> bool
     requires w_bound { w ≤ 32768 }
     requires lens_value { every (is_length w) lens.now ≡ true }
     ensures { result ≡ ltb w (layout_end lens.now) }
 {
-    let mut c = 0;
+    let mut c: usize = 0;
     for n in lens {
-        c = next_multiple(c, *n) + *n;
+        c = c.next_multiple_of(*n) + *n;
         if c > w {
             return true;
         }
@@ -52,11 +44,11 @@ fn place(w: usize, lens: &[usize], k: usize) -> usize
     requires k_in_bounds { k < length lens.now }
     ensures { result ≡ offset lens.now k }
 {
-    let mut c = 0;
+    let mut c: usize = 0;
     for n in &lens[..k] {
-        c = next_multiple(c, *n) + *n;
+        c = c.next_multiple_of(*n) + *n;
     }
-    next_multiple(c, lens[k])
+    c.next_multiple_of(lens[k])
 }
 
 // Writes the offsets of all segments.
@@ -65,9 +57,9 @@ fn fill(w: usize, lens: &[usize], out: &mut [usize])
     requires lens_in_bounds { length lens.now ≤ length out.old }
     ensures { out.new ≡ offsets lens.now ++ drop (length lens.now) out.old }
 {
-    let mut c = 0;
+    let mut c: usize = 0;
     for (i, n) in lens.iter().enumerate() {
-        let o = next_multiple(c, *n);
+        let o = c.next_multiple_of(*n);
         out[i] = o;
         c = o + *n;
     }
@@ -143,6 +135,17 @@ pub fn witness_vars(w: usize) -> Result<usize, Refusal>
     Ok(sizes::log2(w))
 }
 
+// The words of segment i among those of all columns.
+fn part<'a>(folded: &'a [u64], w: usize, lens: &[usize], i: usize) -> &'a [u64]
+    requires layout_fits { LayoutFits w lens.now }
+    requires i_in_bounds { i < length lens.now }
+    requires whole { length folded.now ≡ 2 * w }
+    ensures { result.now ≡ take (2 * get_or lens.now i 0) (drop (2 * offset lens.now i) folded.now) }
+{
+    let a = 2 * place(w, lens, i);
+    &folded[a..a + 2 * lens[i]]
+}
+
 // The part of the folded vector that segment i has; an empty part where the layout is refused, the vector has not two
 // words for each witness column, or there is no segment i.
 pub fn segment<'a>(folded: &'a [u64], w: usize, lens: &[usize], i: usize) -> &'a [u64]
@@ -151,6 +154,5 @@ pub fn segment<'a>(folded: &'a [u64], w: usize, lens: &[usize], i: usize) -> &'a
     if refusal(w, lens).is_err() || folded.len() != 2 * w || i >= lens.len() {
         return &folded[..0];
     }
-    let a = 2 * place(w, lens, i);
-    &folded[a..a + 2 * lens[i]]
+    part(folded, w, lens, i)
 }
