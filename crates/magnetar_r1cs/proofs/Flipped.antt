@@ -190,7 +190,8 @@ module _ (a : Lent) (ws : List ℕ) (q w d n : ℕ) (bits : bit_valued w (matrix
   mask_is : (low r : ℕ) → low < d → flip_total w ws es d low n r ≡ mask_at (matrix_of a) (unpacked q w ws) d n low r
   unfolding flip_total mask_at
   mask_is low r h =
-      sum-ext n (λ t. row_total (flip w (login_part w ws (t * d + low)) t) es r) (λ t. times_at (matrix_of a) (assignment (unpacked q w ws) [] (t * d + low)) r * 2 ^ t)
+      sum-ext n (λ t. row_total (flip w (login_part w ws (t * d + low)) t) es r)
+      (λ t. times_at (matrix_of a) (assignment (unpacked q w ws) [] (t * d + low)) r * 2 ^ t)
       (λ t l. flips-are (t * d + low) t r (login-below t d low n q l h all))
       ∙ sym (bits-sum (λ t. times_at (matrix_of a) (assignment (unpacked q w ws) [] (t * d + low)) r) n
       (λ t l. output-lt (t * d + low) r (login-below t d low n q l h all)))

@@ -1,3 +1,4 @@
+pub mod Walks
 pub mod Lone
 pub mod Points
 pub mod Parts

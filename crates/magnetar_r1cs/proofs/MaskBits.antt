@@ -49,7 +49,8 @@ pub bit-of : (f : ℕ → ℕ) (n t : ℕ) → ((i : ℕ) → i < n → f i < 2)
 unfolding bits_below
 bit-of f zero t h l = absurd (omega arith)
 bit-of f (suc n) t h l =
-    bit-step (bits_below f n) (f n) n t (bits-lt f n (λ i b. h i (omega arith))) (h n (omega arith)) l (f t) (λ e. ap f (sym e)) (λ b. bit-of f n t (λ i c. h i (omega arith)) b)
+    bit-step (bits_below f n) (f n) n t (bits-lt f n (λ i b. h i (omega arith))) (h n (omega arith)) l (f t)
+    (λ e. ap f (sym e)) (λ b. bit-of f n t (λ i c. h i (omega arith)) b)
 
 -- ---- a member of vectors that are set one behind the other
 blocks_step : (f : ℕ → List ℕ) (s : List ℕ) (m d u i : ℕ) → length s ≡ d * m → u < suc d → i < m
@@ -76,7 +77,8 @@ pub mask-bit : (a : Lent) (ws : List ℕ) (q w d n : ℕ) → bit_valued w (matr
 unfolding masks mask_at matrix_of
 mask-bit a ws q w d n bits all l r t hl hr ht =
     let e : get_or (masks (matrix_of a) (unpacked q w ws) d n) (l * a.rows + r) 0 ≡ mask_at (matrix_of a) (unpacked q w ws) d n l r =
-    blocks-get (λ v. tabulate (mask_at (matrix_of a) (unpacked q w ws) d n v) a.rows) a.rows d l r (λ v. tabulate-length (mask_at (matrix_of a) (unpacked q w ws) d n v) a.rows) hl hr
+    blocks-get (λ v. tabulate (mask_at (matrix_of a) (unpacked q w ws) d n v) a.rows) a.rows d l r
+    (λ v. tabulate-length (mask_at (matrix_of a) (unpacked q w ws) d n v) a.rows) hl hr
     ∙ tabulate-get (mask_at (matrix_of a) (unpacked q w ws) d n l) a.rows r 0 hr in
     ap (λ (m : ℕ). m / 2 ^ t % 2) e
     ∙ bit-of (λ i. times_at (matrix_of a) (assignment (unpacked q w ws) [] (i * d + l)) r) n t

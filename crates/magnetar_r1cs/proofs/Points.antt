@@ -68,6 +68,8 @@ module _ (n m : ℕ) (r c : List ℕ) (en : n ≡ 2 ^ length r) (em : m ≡ 2 ^ 
       let a : e.row < n = ltb-true e.row n k.0 in
       let b : e.col < m = ltb-true e.col m k.1 in
       let l : length (eq_table r) ≡ n = eq_table-length r ∙ sym en in
-      let x : get_or (eq_table r ++ eq_table c) e.row 0 ≡ eq_at r e.row = get_or-append (eq_table r) (eq_table c) 0 e.row (omega arith) ∙ eq_table-get r e.row (rw en at a) in
-      let y : get_or (eq_table r ++ eq_table c) (n + e.col) 0 ≡ eq_at c e.col = rw (← l) (get_or-append-add (eq_table r) (eq_table c) e.col 0) ∙ eq_table-get c e.col (rw em at b) in
+      let x : get_or (eq_table r ++ eq_table c) e.row 0 ≡ eq_at r e.row =
+      get_or-append (eq_table r) (eq_table c) 0 e.row (omega arith) ∙ eq_table-get r e.row (rw en at a) in
+      let y : get_or (eq_table r ++ eq_table c) (n + e.col) 0 ≡ eq_at c e.col =
+      rw (← l) (get_or-append-add (eq_table r) (eq_table c) e.col 0) ∙ eq_table-get c e.col (rw em at b) in
       rw (x, y)

@@ -13,7 +13,8 @@ use Rattle.magnetar_r1cs.specs.Masks.{masks}
 use Rattle.magnetar_matrix.specs.Packed.{packed_table, unpacked}
 use Rattle.magnetar_matrix.specs.Lent.{Lent, matrix_of}
 use Rattle.magnetar_matrix.specs.Numbers.{Numbers, entries_by}
-use Rattle.magnetar_layout.specs.Tests.{Tests, first_refusal, size_tests, packed_tests, packed_tests_of, public_tests_of, rows_tests, matrix_column_tests, counted, placed, batch_tests, length_test, room_test, lone_tests}
+use Rattle.magnetar_layout.specs.Tests.{Tests, first_refusal, size_tests, packed_tests, packed_tests_of, public_tests_of, rows_tests}
+use Rattle.magnetar_layout.specs.Tests.{matrix_column_tests, counted, placed, batch_tests, length_test, room_test, lone_tests}
 
 -- ---- `apply`: the matrix a, the vector z, the output out
 -- those of a matrix alone; 11: z; 15: the output

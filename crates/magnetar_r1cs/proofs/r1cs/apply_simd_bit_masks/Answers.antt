@@ -31,7 +31,9 @@ use Rattle.magnetar_matrix.proofs.Blocks.{product-fits}
 use Rattle.magnetar_r1cs.proofs.Flipped.{Powers, powers-of, masks-in-front}
 use Rattle.magnetar_r1cs.proofs.r1cs.apply_simd_bit_masks.Goals as goal
 
-record Fits (m : Lent) (q w v d n : ℕ) : Type 0 where
+-- what d = 2^(log2 q - v) and n = 2^v are, once the tests let them through
+record Fits (m : Lent) (ws : List ℕ) (q w v d n : ℕ) : Type 0 where
+  batched : Batched m ws [] q w
   bits : bit_valued w (matrix_of m) ≡ true
   most : v ≤ log₂ q
   powers : Powers q v
@@ -39,14 +41,16 @@ record Fits (m : Lent) (q w v d n : ℕ) : Type 0 where
   logins : n ≡ 2 ^ v
   few : d ≤ 4096
 
-fits_of : (m : Lent) (ws : List ℕ) (q w v d n : ℕ) → 0 ≡ first_refusal 0 (mask_tests m q w v) → Batched m ws [] q w
-    → d ≡ 2 ^ (log₂ q - v) % 2 ^ 64 → n ≡ 2 ^ v % 2 ^ 64 → Fits m q w v d n
-fits_of m ws q w v d n e b hd hn =
-    let k = cleared (mask_tests m q w v) refl e in
+fits_of : (m : Lent) (ws : List ℕ) (q w v d n s : ℕ) → 0 ≡ first_refusal 0 (matrix_tests m ws q w) → 0 ≡ first_refusal 0 (mask_tests m q w v)
+    → s ≡ log₂ q → d ≡ 2 ^ (s - v) % 2 ^ 64 → n ≡ 2 ^ v % 2 ^ 64 → Fits m ws q w v d n
+fits_of m ws q w v d n s eb em hs hd hn =
+    let b = masked m ws q w (sym eb) in
+    let k = cleared (mask_tests m q w v) refl em in
     let h = ltb-false _ _ k.1.0 in
     let p = powers-of q v b.logins h (ltb-false _ _ k.1.1.0) in
-    let l : d ≡ 2 ^ (log₂ q - v) = hd ∙ power-is (log₂ q - v) (omega (arith, p.small)) in
+    let l : d ≡ 2 ^ (log₂ q - v) = (rw hs at hd) ∙ power-is (log₂ q - v) (omega (arith, p.small)) in
     record {
+      batched = b;
       bits = not-false _ k.0;
       most = h;
       powers = p;
@@ -94,19 +98,17 @@ unfolding bit_valued matrix_of
 overflow_mul-end g c =
     let x = c.args in
     let a : Lent = lent_by x.rows x.cols (g.E.Entries.numbers x.es.now) in
-    let o = masked a x.packed.now x.q x.w (sym c.in_ok-matrix_refusal.ensures) in
-    let f = fits_of a x.packed.now x.q x.w x.v c.power_of_two-d.result c.power_of_two-c.result c.in_ok-bits_refusal.ensures o
-    (rw c.log2-s.ensures.0 at c.power_of_two-d.ensures) c.power_of_two-c.ensures in
-    omega (arith, product-fits c.power_of_two-d.result x.rows f.few (omega (arith, o.rows_size.high)))
+    let f = fits_of a x.packed.now x.q x.w x.v c.power_of_two-d.result c.power_of_two-c.result c.log2-s.result c.in_ok-matrix_refusal.ensures
+    c.in_ok-bits_refusal.ensures c.log2-s.ensures.0 c.power_of_two-d.ensures c.power_of_two-c.ensures in
+    omega (arith, product-fits c.power_of_two-d.result x.rows f.few (omega (arith, f.batched.rows_size.high)))
 
 pub returns-in_err-require : goal.returns-in_err-require
 unfolding masks_refusal bit_valued matrix_of
 returns-in_err-require g c =
     let x = c.args in
     let a : Lent = lent_by x.rows x.cols (g.E.Entries.numbers x.es.now) in
-    let b = masked a x.packed.now x.q x.w (sym c.in_ok-matrix_refusal.ensures) in
-    let f = fits_of a x.packed.now x.q x.w x.v c.power_of_two-d.result c.power_of_two-c.result c.in_ok-bits_refusal.ensures b
-    (rw c.log2-s.ensures.0 at c.power_of_two-d.ensures) c.power_of_two-c.ensures in
+    let f = fits_of a x.packed.now x.q x.w x.v c.power_of_two-d.result c.power_of_two-c.result c.log2-s.result c.in_ok-matrix_refusal.ensures
+    c.in_ok-bits_refusal.ensures c.log2-s.ensures.0 c.power_of_two-d.ensures c.power_of_two-c.ensures in
     let k : Tests = mask_tests a x.q x.w x.v in
     let o : Tests = room_test (mask_count a x.q x.v) x.out.now in
     let h = c.from_residual-in_err-require.ensures.1 in
@@ -119,17 +121,16 @@ unfolding bit_valued matrix_of
 mask_all-requires g c =
     let x = c.args in
     let a : Lent = lent_by x.rows x.cols (g.E.Entries.numbers x.es.now) in
-    let o = masked a x.packed.now x.q x.w (sym c.in_ok-matrix_refusal.ensures) in
-    let f = fits_of a x.packed.now x.q x.w x.v c.power_of_two-d.result c.power_of_two-c.result c.in_ok-bits_refusal.ensures o
-    (rw c.log2-s.ensures.0 at c.power_of_two-d.ensures) c.power_of_two-c.ensures in
+    let f = fits_of a x.packed.now x.q x.w x.v c.power_of_two-d.result c.power_of_two-c.result c.log2-s.result c.in_ok-matrix_refusal.ensures
+    c.in_ok-bits_refusal.ensures c.log2-s.ensures.0 c.power_of_two-d.ensures c.power_of_two-c.ensures in
     let room : c.power_of_two-d.result * x.rows ≤ length x.out.now = grind arith in (
-      o.half,
-      o.logins.high,
+      f.batched.half,
+      f.batched.logins.high,
       rw f.logins f.powers.logins,
       rw (f.lows, f.logins) f.powers.all,
       f.few,
-      o.rows_size.high,
-      o.packed,
+      f.batched.rows_size.high,
+      f.batched.packed,
       length-take-le _ _ room,
     )
 
@@ -138,10 +139,8 @@ unfolding masks_refusal bit_valued matrix_of
 returns g c =
     let x = c.args in
     let a : Lent = lent_by x.rows x.cols (g.E.Entries.numbers x.es.now) in
-    let b = masked a x.packed.now x.q x.w (sym c.in_ok-matrix_refusal.ensures) in
-    let d = c.power_of_two-d.result in
-    let f = fits_of a x.packed.now x.q x.w x.v d c.power_of_two-c.result c.in_ok-bits_refusal.ensures b
-    (rw c.log2-s.ensures.0 at c.power_of_two-d.ensures) c.power_of_two-c.ensures in
+    let f = fits_of a x.packed.now x.q x.w x.v c.power_of_two-d.result c.power_of_two-c.result c.log2-s.result c.in_ok-matrix_refusal.ensures
+    c.in_ok-bits_refusal.ensures c.log2-s.ensures.0 c.power_of_two-d.ensures c.power_of_two-c.ensures in
     let room : c.power_of_two-d.result * x.rows ≤ length x.out.now = grind arith in
     let t : mask_count a x.q x.v ≤ length x.out.now = rw (← f.lows) room in
     let k : Tests = mask_tests a x.q x.w x.v in

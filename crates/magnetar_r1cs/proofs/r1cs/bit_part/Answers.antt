@@ -5,5 +5,4 @@ use Rattle.magnetar_r1cs.proofs.r1cs.bit_part.Goals as goal
 
 pub returns : goal.returns
 returns g c =
-    let s = c in
-    kept-words _ s.args.out.now _ s.requires (search rules) c.add_bits.ensures (λ i. omega (arith, c.type_inv.out i))
+    kept-words _ c.args.out.now _ c.requires (search rules) c.add_bits.ensures (λ i. omega (arith, c.type_inv.out i))

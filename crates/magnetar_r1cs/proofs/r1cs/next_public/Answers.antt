@@ -22,7 +22,8 @@ returns-then-within g c =
     let same : take (2 * x.n) x.out.now ≡ next =
     elim c.then-within.branch [
       | then-within-via-then-within w ↦
-          c.requires.out_value ∙ rows-unread x.w x.n (elements (take x.l x.x.now)) (elements (take x.l (drop x.l x.x.now))) es (sym c.requires.within_value ∙ w.if-within.true)
+          c.requires.out_value ∙ rows-unread x.w x.n (elements (take x.l x.x.now)) (elements (take x.l (drop x.l x.x.now))) es
+          (sym c.requires.within_value ∙ w.if-within.true)
       | then-within-via-else-within+then-repeats w ↦
           let e : take x.l (drop x.l x.x.now) ≡ take x.l x.x.now = repeated-is x.l x.x.now (sym w.repeats.ensures ∙ w.if-repeats.true) in
           rw e c.requires.out_value

@@ -26,7 +26,8 @@ pub login_product-requires : goal.login_product-requires
 login_product-requires g c =
     let x = c.args in
     let l = c.loop-u in
-    let long : length l.out ≡ x.q * (2 * x.n) = l.auto.out ∙ (length_front x.out.now c.public_part.new.out (2 * x.n) c.public_part.auto.out ∙ c.requires.packed_len.2) in
+    let long : length l.out ≡ x.q * (2 * x.n) =
+    l.auto.out ∙ (length_front x.out.now c.public_part.new.out (2 * x.n) c.public_part.auto.out ∙ c.requires.packed_len.2) in
     let p = block_of (length l.out) x.q (2 * x.n) l.u long c.requires.le_w.3 (omega (arith, c.requires.le_w.5)) c.loop-u-test.true in
     record {
       within_value = c.all_columns_up_to-within.ensures;
@@ -43,7 +44,8 @@ pub loop-u-preserved : goal.loop-u-preserved
 loop-u-preserved g c =
     let x = c.args in
     let l = c.loop-u in
-    let long : length l.out ≡ x.q * (2 * x.n) = l.auto.out ∙ (length_front x.out.now c.public_part.new.out (2 * x.n) c.public_part.auto.out ∙ c.requires.packed_len.2) in
+    let long : length l.out ≡ x.q * (2 * x.n) =
+    l.auto.out ∙ (length_front x.out.now c.public_part.new.out (2 * x.n) c.public_part.auto.out ∙ c.requires.packed_len.2) in
     let r = c.login_product in
     next-login x.w x.n c.login_words-k.result (2 * x.w - 2) l.u x.q x.x.now x.packed.now l.out r.new.out (entries_by (g.E.Entries.numbers x.es.now))
     l.invariant c.loop-u-test.true long c.login_words-k.ensures refl r.ensures

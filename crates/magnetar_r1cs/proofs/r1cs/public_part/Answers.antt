@@ -5,5 +5,4 @@ use Rattle.magnetar_r1cs.proofs.r1cs.public_part.Goals as goal
 
 pub returns : goal.returns
 returns g c =
-    let s = c in
-    cleared-raised _ s.args.out.now _ _ s.requires (search rules) c.clear.ensures c.add_public.ensures (λ i. omega (arith, c.type_inv.out i))
+    cleared-raised _ c.args.out.now _ _ c.requires (search rules) c.clear.ensures c.add_public.ensures (λ i. omega (arith, c.type_inv.out i))

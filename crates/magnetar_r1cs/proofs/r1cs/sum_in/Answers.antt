@@ -14,17 +14,16 @@ slice_bounds-build-end-2 g c = sym (length-take-le _ _ c.requires.n_bound.2)
 
 pub returns : goal.returns
 returns g c =
-    let f = c in
-    let s = c in
-    let x = s.args in
-    let room = s.requires.n_bound.2 in
-    let front = f.build-rows.auto.out ∙ length-take-le _ _ room in
-    let first = f.build-rows.ensures.table ∙ eq-built _ _ s.requires.point in
-    let second = f.build-cols.ensures.table ∙ ap (λ (l : List ℕ). eq_out x.c.now 1 l) (behind f.build-rows.new.out x.s.now (2 * x.n) room front) ∙ eq-built _ _ s.requires.point_2 in
-    let p = both-parts f.build-rows.new.out x.s.now (2 * x.n) room front f.build-cols.new.out in record {
+    let x = c.args in
+    let room = c.requires.n_bound.2 in
+    let front = c.build-rows.auto.out ∙ length-take-le _ _ room in
+    let first = c.build-rows.ensures.table ∙ eq-built _ _ c.requires.point in
+    let second = c.build-cols.ensures.table
+    ∙ ap (λ (l : List ℕ). eq_out x.c.now 1 l) (behind c.build-rows.new.out x.s.now (2 * x.n) room front) ∙ eq-built _ _ c.requires.point_2 in
+    let p = both-parts c.build-rows.new.out x.s.now (2 * x.n) room front c.build-cols.new.out in record {
       result_value = rw (c.sum_products-v.ensures, p, first, second, elements-append);
       s_after = rw (
         c.clear.ensures,
-        both-length f.build-rows.new.out x.s.now (2 * x.n) room front f.build-cols.new.out f.build-cols.auto.out,
+        both-length c.build-rows.new.out x.s.now (2 * x.n) room front c.build-cols.new.out c.build-cols.auto.out,
       );
     }

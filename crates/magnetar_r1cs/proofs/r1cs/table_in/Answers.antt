@@ -9,9 +9,8 @@ use Rattle.magnetar_r1cs.proofs.r1cs.table_in.Goals as goal
 
 pub returns : goal.returns
 returns g c =
-    let b = c in
-    let built = b.build-done.ensures.table ∙ eq-built _ _ b.requires.point in
-    let same : length b.build-done.new.out ≡ length c.args.s.now = search rules in record {
+    let built = c.build-done.ensures.table ∙ eq-built _ _ c.requires.point in
+    let same : length c.build-done.new.out ≡ length c.args.s.now = search rules in record {
       out_after = c.product.ensures ∙ rw (built, elements-words);
       s_after = c.clear.ensures ∙ ap (λ (n : ℕ). replicate n 0) same;
     }
