@@ -1,16 +1,15 @@
 -- What the tests 4 to 7 leave of a relation as it is lent; and that 7 may be tested by telling each entry its index.
 -- Assumes nothing.
 use mathlib.Core.Path.{◌≡◌, refl, sym, ap, ◌∙◌}
-use mathlib.Core.Bool.{Bool, true, not}
+use mathlib.Core.Bool.{Bool, not}
 use mathlib.Core.List.{List, [], ◌∷◌, ◌++◌, map}
-use Prim.Native.Nat.{ℕ, zero, suc, ◌*◌, ◌≤◌}
+use Prim.Native.Nat.{ℕ, zero, suc, ◌≤◌}
 use native.Mathlib.Omega.{arith}
 use lib.Dec.{eqb, ltb}
 use lib.ListN.{length}
 use borrow.Author.Tests.{ltb-false, eqb-true, not-false}
-use Rattle.magnetar_layout.specs.Tests.{Tests, or_refuse, first_refusal, Sized}
-use Rattle.magnetar_layout.proofs.FirstRefusal.{note-kept, first-refusal-clear, first-refusal-append, first-refusal-kept, first-refusal-rest}
-use Rattle.magnetar_layout.proofs.SizeLaws.{not-bad}
+use Rattle.magnetar_layout.specs.Tests.{Tests, first_refusal}
+use Rattle.magnetar_layout.proofs.FirstRefusal.{first-refusal-clear, first-refusal-append, first-refusal-kept, first-refusal-rest}
 use Rattle.magnetar_matrix.specs.Matrix.{Entry}
 use Rattle.magnetar_matrix.specs.Lent.{entries_of}
 use Rattle.magnetar_matrix.specs.Numbers.{Numbers, entries_by, counts, record_numbers, entry_of}
@@ -19,7 +18,7 @@ use Rattle.magnetar_matrix.proofs.EntryLists.{entries-length, records_are, map-l
 use Rattle.magnetar_relation.specs.declared.shapes.SystemShape.{SystemShape}
 use Rattle.magnetar_relation.specs.declared.shapes.Shapes.{Shapes}
 use Rattle.magnetar_relation.specs.Rules.{rules, rules_by, rules_over, in_relation, entries_in, system_at}
-use Rattle.magnetar_relation.specs.RuleTests.{most_tests, number_tests, shape_tests, total, rule_tests_by, rule_tests, given}
+use Rattle.magnetar_relation.specs.RuleTests.{number_tests, shape_tests, total, rule_tests_by, rule_tests}
 use Rattle.magnetar_relation.specs.EntryWalks.{lies_at, every_from}
 use Rattle.magnetar_relation.proofs.ToldLaws.{told-six}
 
@@ -35,68 +34,6 @@ pub record Few (t : SystemShape) : Type 0 where
   pub a : t.a.entries ≤ 1048576
   pub b : t.b.entries ≤ 1048576
   pub c : t.c.entries ≤ 1048576
-
-pub few : (t : SystemShape) (z : ℕ) → first_refusal z (most_tests t) ≡ 0 → Few t
-few t z e =
-    let k = (first-refusal-clear z (most_tests t) refl e).1 in
-    record { a = most _ _ k.0; b = most _ _ k.1.0; c = most _ _ k.1.1.0 }
-
--- a system for q logins over m columns
-pub record SystemFits (m q : ℕ) (t : SystemShape) : Type 0 where
-  pub rows : Sized 1 65536 t.a.rows
-  pub second : t.b.rows ≡ t.a.rows
-  pub third : t.c.rows ≡ t.a.rows
-  pub batch : q * t.a.rows ≤ 1048576
-  pub cols-a : t.a.cols ≡ m
-  pub cols-b : t.b.cols ≡ m
-  pub cols-c : t.c.cols ≡ m
-  pub few : Few t
-
--- both, with slices of r, c, l and h numbers
-pub record RulesFit (m q : ℕ) (s : Shapes) (r c l h : ℕ) (inside : Bool) : Type 0 where
-  pub bin : SystemFits m q s.bin
-  pub fld : SystemFits m q s.fld
-  pub row : r ≡ total s
-  pub col : c ≡ total s
-  pub lo : l ≡ total s
-  pub hi : h ≡ total s
-  pub places : inside ≡ true
-
-pub rules-fit : (m q : ℕ) (s : Shapes) (r c l h z : ℕ) (inside : Bool) → first_refusal z (rule_tests_by m q s (r ∷ c ∷ l ∷ h ∷ []) inside) ≡ 0
-    → RulesFit m q s r c l h inside
-unfolding rule_tests_by
-rules-fit m q s r c l h z inside e =
-    let k = (first-refusal-clear z (rule_tests_by m q s (r ∷ c ∷ l ∷ h ∷ []) inside) refl e).1 in
-    let j = k.1.1.1.1.1.1.1.1 in
-    let i = j.1.1.1.1.1.1 in
-    let n = i.1.1.1.1.1.1 in
-    record {
-      bin = record {
-        rows = not-bad k.0;
-        second = same _ _ k.1.0;
-        third = same _ _ k.1.1.0;
-        batch = most _ _ k.1.1.1.0;
-        cols-a = same _ _ j.0;
-        cols-b = same _ _ j.1.0;
-        cols-c = same _ _ j.1.1.0;
-        few = record { a = most _ _ i.0; b = most _ _ i.1.0; c = most _ _ i.1.1.0 };
-      };
-      fld = record {
-        rows = not-bad k.1.1.1.1.0;
-        second = same _ _ k.1.1.1.1.1.0;
-        third = same _ _ k.1.1.1.1.1.1.0;
-        batch = most _ _ k.1.1.1.1.1.1.1.0;
-        cols-a = same _ _ j.1.1.1.0;
-        cols-b = same _ _ j.1.1.1.1.0;
-        cols-c = same _ _ j.1.1.1.1.1.0;
-        few = record { a = most _ _ i.1.1.1.0; b = most _ _ i.1.1.1.1.0; c = most _ _ i.1.1.1.1.1.0 };
-      };
-      row = same _ _ n.0;
-      col = same _ _ n.1.0;
-      lo = same _ _ n.1.1.0;
-      hi = same _ _ n.1.1.1.0;
-      places = not-false inside n.1.1.1.1.0;
-    }
 
 -- the shapes alone
 pub shapes-few : (m q : ℕ) (s : Shapes) → first_refusal 0 (shape_tests m q s) ≡ 0 → Few s.bin × Few s.fld
@@ -121,7 +58,8 @@ late a k b d f = first-refusal-append 0 a ((k, b) ∷ []) ∙ (go (first_refusal
         let h : suc z ≡ 0 → ⊥ = λ i. omega (arith, i) in
         rw e (first-refusal-kept (suc z) ((k, b) ∷ []) h ∙ sym (first-refusal-kept (suc z) ((k, d) ∷ []) h))
 
-module _ (m q : ℕ) (s : Shapes) (r c l h : ℕ) (es : List Entry) (long : r ≡ total s → c ≡ total s → l ≡ total s → h ≡ total s → length es ≡ total s) where
+module _ (m q : ℕ) (s : Shapes) (r c l h : ℕ) (es : List Entry)
+    (long : r ≡ total s → c ≡ total s → l ≡ total s → h ≡ total s → length es ≡ total s) where
   abbrev first : Tests
   first = shape_tests m q s ++ number_tests (total s) (r ∷ c ∷ l ∷ h ∷ [])
 
@@ -134,7 +72,8 @@ module _ (m q : ℕ) (s : Shapes) (r c l h : ℕ) (es : List Entry) (long : r �
   abbrev inside : Bool
   inside = in_relation (record { m = m; q = q; bin = system_at s.bin 0 es; fld = system_at s.fld (entries_in s.bin) es; lengths = [] })
 
-  told : (b : Bool) → b ≡ every_from (lies_at s) 0 es → first_refusal 0 (rule_tests_by m q s (r ∷ c ∷ l ∷ h ∷ []) b) ≡ first_refusal 0 (rule_tests_by m q s (r ∷ c ∷ l ∷ h ∷ []) inside)
+  told : (b : Bool) → b ≡ every_from (lies_at s) 0 es
+      → first_refusal 0 (rule_tests_by m q s (r ∷ c ∷ l ∷ h ∷ []) b) ≡ first_refusal 0 (rule_tests_by m q s (r ∷ c ∷ l ∷ h ∷ []) inside)
   unfolding rule_tests_by in_relation
   told b e = late first 7 (not b) (not inside) (λ f. ap not (e ∙ told-six s es (counted f)))
 
@@ -146,28 +85,14 @@ rules-told m q ns s N b z e f =
     (λ i j k n. entries-equal N.row N.col N.lo N.hi (j ∙ sym i) (k ∙ sym i) (n ∙ sym i) ∙ i) b e
 
 -- the numbers of records give the relation that is lent as records
-pub rules-records : (m q : ℕ) (ns : List ℕ) (s : Shapes) (es : List code.Entry) → rules_by m q ns s (record_numbers es) ≡ rules_over m q ns s (map entry_of es)
+pub rules-records : (m q : ℕ) (ns : List ℕ) (s : Shapes) (es : List code.Entry)
+    → rules_by m q ns s (record_numbers es) ≡ rules_over m q ns s (map entry_of es)
 rules-records m q ns s es = simp (records_are, map-length)
 
 -- the segment lengths do not matter
 pub lengths-free : (m q : ℕ) (ns : List ℕ) (s : Shapes) (row col lo hi : List ℕ) → rule_tests (rules m q [] s row col lo hi) ≡ rule_tests (rules m q ns s row col lo hi)
 unfolding in_relation
 lengths-free m q ns s row col lo hi = refl
-
-pub over-free : (m q : ℕ) (ns : List ℕ) (s : Shapes) (es : List Entry) → rule_tests (rules_over m q [] s es) ≡ rule_tests (rules_over m q ns s es)
-unfolding in_relation
-over-free m q ns s es = refl
-
--- ---- a group of tests by the number that it gave
-pub given_is : (l : Tests) (z a : ℕ) → z ≡ first_refusal 0 l → first_refusal a (given z) ≡ first_refusal a l
-unfolding or_refuse
-given_is l z zero e = e
-given_is l z (suc a) e = let h : suc a ≡ 0 → ⊥ = λ i. omega (arith, i) in note-kept z true (suc a) h ∙ sym (first-refusal-kept (suc a) l h)
-
-pub given-group : (f l k : Tests) (z : ℕ) → z ≡ first_refusal 0 l → first_refusal 0 (f ++ (given z ++ k)) ≡ first_refusal 0 (f ++ (l ++ k))
-given-group f l k z e =
-    first-refusal-append 0 f (given z ++ k) ∙ (first-refusal-append (first_refusal 0 f) (given z) k ∙ (ap (λ (a : ℕ). first_refusal a k) (given_is l z (first_refusal 0 f) e)
-    ∙ (sym (first-refusal-append (first_refusal 0 f) l k) ∙ sym (first-refusal-append 0 f (l ++ k)))))
 
 -- ---- two groups that are passed
 pub join-none : (l k : Tests) → first_refusal 0 l ≡ 0 → first_refusal 0 k ≡ 0 → first_refusal 0 (l ++ k) ≡ 0

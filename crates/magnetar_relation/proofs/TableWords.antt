@@ -34,7 +34,8 @@ pub cleared-words : (n : ℕ) (out t : List ℕ) → 2 * n ≤ length out → t 
 unfolding cleared_to
 cleared-words n out t h e = rw (le-leb _ _ h, e, length-take-le (2 * n) out h)
 
-pub added-words : (n k v : ℕ) (out t : List ℕ) → 2 * n ≤ length out → length t ≡ length (take (2 * n) out) → elements t ≡ added_at (elements (take (2 * n) out)) k v
+pub added-words : (n k v : ℕ) (out t : List ℕ) → 2 * n ≤ length out
+    → length t ≡ length (take (2 * n) out) → elements t ≡ added_at (elements (take (2 * n) out)) k v
     → ((i : ℕ) → get_or (t ++ drop (2 * n) out) i 0 < 2 ^ 64) → t ++ drop (2 * n) out ≡ added_to n k v out
 unfolding added_to
 added-words n k v out t h same e fit =

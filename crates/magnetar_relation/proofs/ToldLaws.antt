@@ -1,23 +1,22 @@
--- Entries told their index: those of six matrices, one behind the other; and the entries of one matrix among them.
+-- Walks over entries: those told their index, of six matrices one behind the other; and those of one matrix.
 -- Assumes nothing.
 use mathlib.Core.Path.{◌≡◌, refl, sym, ap, ◌∙◌}
-use mathlib.Core.Bool.{Bool, true, false, cond, ◌&&◌}
+use mathlib.Core.Bool.{Bool, true, false, ◌&&◌}
 use mathlib.Core.List.{List, [], ◌∷◌, ◌++◌}
-use Prim.Native.Nat.{ℕ, zero, suc, ◌+◌, ◌-◌, ◌<◌, ◌≤◌}
+use Prim.Native.Nat.{ℕ, suc, ◌+◌, ◌-◌, ◌<◌, ◌≤◌}
 use native.Mathlib.Omega.{arith}
 use native.Mathlib.Nat.{zero-add}
 use native.Mathlib.Numerals.{add-one}
 use lib.ListN.{length, take, drop, length-drop, take-append-drop}
 use lib.Seq.{drop-drop, length-take-le, take_all}
-use lib.Dec.{ltb, leb}
-use borrow.Author.Tests.{lt-ltb, le-ltb, le-leb, lt-leb}
+use borrow.Author.Tests.{lt-ltb, le-ltb}
 use Rattle.magnetar_layout.specs.Every.{every}
 use Rattle.magnetar_matrix.specs.Matrix.{Entry}
 use Rattle.magnetar_relation.specs.declared.shapes.Shape.{Shape}
 use Rattle.magnetar_relation.specs.declared.shapes.Shapes.{Shapes}
 use Rattle.magnetar_relation.specs.Rules.{entries_in, system_at, lies_in, in_system}
 use Rattle.magnetar_relation.specs.RuleTests.{total}
-use Rattle.magnetar_relation.specs.EntryWalks.{shape_in, shape_at, lies_at, every_from, fold_entries, fold_entries_within}
+use Rattle.magnetar_relation.specs.EntryWalks.{shape_in, shape_at, lies_at, every_from, fold_entries}
 
 -- ---- a loop that stops at the first entry of which the test does not hold; what it leaves of the list is es
 and_assoc : (a b c : Bool) → ((a && b) && c) ≡ (a && (b && c))
@@ -51,7 +50,8 @@ from-append p i [] ys = rw (add-zero i)
 from-append p i (x ∷ xs) ys =
     rw (from-append p (suc i) xs ys, add-move i (length xs)) (sym (and_assoc (p i x) (every_from p (suc i) xs) (every_from p (suc i + length xs) ys)))
 
-from-same : (p : ℕ → Entry → Bool) (q : Entry → Bool) (i : ℕ) (xs : List Entry) → ((j : ℕ) (e : Entry) → i ≤ j → j < i + length xs → p j e ≡ q e) → every_from p i xs ≡ every q xs
+from-same : (p : ℕ → Entry → Bool) (q : Entry → Bool) (i : ℕ) (xs : List Entry)
+    → ((j : ℕ) (e : Entry) → i ≤ j → j < i + length xs → p j e ≡ q e) → every_from p i xs ≡ every q xs
 unfolding every_from every
 from-same p q i [] h = refl
 from-same p q i (x ∷ xs) h =
@@ -163,58 +163,6 @@ told-six s es l =
     )
     (and-all (inside s.bin.a 0 es) (inside s.bin.b k₁ es) (inside s.bin.c k₂ es)
     (inside s.fld.a k₃ es && (inside s.fld.b k₄ es && every (lies_in s.fld.c.rows s.fld.c.cols) (drop k₅ es))))
-
--- ---- a walk that passes over the others is a walk over the part
-pub within_more : (g : Entry → List ℕ → List ℕ) (a b i : ℕ) (e : Entry) (es : List Entry) (t t' : List ℕ) → t' ≡ cond (leb a i && ltb i b) (g e t) t
-    → fold_entries_within g a b (i + 1) es t' ≡ fold_entries_within g a b i (e ∷ es) t
-unfolding fold_entries_within
-within_more g a b i e es t t' h = rw (add-one i, h)
-
-pub within_end : (g : Entry → List ℕ → List ℕ) (a b i : ℕ) (t : List ℕ) → t ≡ fold_entries_within g a b i [] t
-unfolding fold_entries_within
-within_end g a b i t = refl
-
-within-past : (g : Entry → List ℕ → List ℕ) (a b i : ℕ) (es : List Entry) (t : List ℕ) → a ≤ i → b ≤ i → fold_entries_within g a b i es t ≡ t
-unfolding fold_entries_within
-within-past g a b i [] t u v = refl
-within-past g a b i (e ∷ es) t u v = rw (le-leb a i u, le-ltb i b v) (within-past g a b (suc i) es t (omega arith) (omega arith))
-
-within_none : (g : Entry → List ℕ → List ℕ) (a b i : ℕ) (t : List ℕ) → fold_entries_within g a b i [] t ≡ fold_entries g [] t
-unfolding fold_entries_within fold_entries
-within_none g a b i t = refl
-
-walked_none : (g : Entry → List ℕ → List ℕ) (es : List Entry) (t : List ℕ) → t ≡ fold_entries g (take 0 es) t
-unfolding fold_entries
-walked_none g es t = refl
-
-take_none : (g : Entry → List ℕ → List ℕ) (k : ℕ) (t : List ℕ) → fold_entries g [] t ≡ fold_entries g (take k []) t
-take_none g zero t = refl
-take_none g (suc k) t = refl
-
-within_step : (g : Entry → List ℕ → List ℕ) (a b i : ℕ) (e : Entry) (es : List Entry) (t : List ℕ) → a ≤ i → i < b → fold_entries_within g a b i (e ∷ es) t ≡ fold_entries_within g a b (suc i) es (g e t)
-unfolding fold_entries_within
-within_step g a b i e es t u v = rw (le-leb a i u, lt-ltb i b v)
-
-within-skip : (g : Entry → List ℕ → List ℕ) (a b i : ℕ) (e : Entry) (es : List Entry) (t : List ℕ) → i < a → fold_entries_within g a b i (e ∷ es) t ≡ fold_entries_within g a b (suc i) es t
-unfolding fold_entries_within
-within-skip g a b i e es t u = rw (lt-leb a i u)
-
-walked_step : (g : Entry → List ℕ → List ℕ) (k : ℕ) (e : Entry) (es : List Entry) (t : List ℕ) → fold_entries g (take k es) (g e t) ≡ fold_entries g (take (suc k) (e ∷ es)) t
-unfolding fold_entries
-walked_step g k e es t = refl
-
-within_in : (g : Entry → List ℕ → List ℕ) (a b k i : ℕ) (es : List Entry) (t : List ℕ) → a ≤ i → b ≡ i + k → fold_entries_within g a b i es t ≡ fold_entries g (take k es) t
-within_in g a b zero i es t u v = within-past g a b i es t u (omega arith) ∙ walked_none g es t
-within_in g a b (suc k) i [] t u v = within_none g a b i t
-within_in g a b (suc k) i (e ∷ es) t u v = within_step g a b i e es t u (omega arith) ∙ (within_in g a b k (suc i) es (g e t) (omega arith) (omega arith) ∙ walked_step g k e es t)
-
-within-from : (g : Entry → List ℕ → List ℕ) (a b d k i : ℕ) (es : List Entry) (t : List ℕ) → a ≡ i + d → b ≡ a + k → fold_entries_within g a b i es t ≡ fold_entries g (take k (drop d es)) t
-within-from g a b zero k i es t u v = within_in g a b k i es t (omega arith) (omega arith)
-within-from g a b (suc d) k i [] t u v = within_none g a b i t ∙ take_none g k t
-within-from g a b (suc d) k i (e ∷ es) t u v = within-skip g a b i e es t (omega arith) ∙ within-from g a b d k (suc i) es t (omega arith) v
-
-pub within-is : (g : Entry → List ℕ → List ℕ) (a k : ℕ) (es : List Entry) (t : List ℕ) → fold_entries_within g a (a + k) 0 es t ≡ fold_entries g (take k (drop a es)) t
-within-is g a k es t = within-from g a (a + k) a k 0 es t (omega arith) refl
 
 -- ---- a loop over the entries, of which es is what it leaves
 module _ (g : Entry → List ℕ → List ℕ) (whole : List ℕ) (es : List Entry) (t : List ℕ) (inv : fold_entries g es t ≡ whole) where

@@ -24,12 +24,14 @@ pub returns-in_err-numbers : goal.returns-in_err-numbers
 unfolding rule_tests_by
 returns-in_err-numbers c =
     let x = c.args in
+    let counted = rw (c.entries_in.ensures.0, c.entries_in-2.ensures.0) at c.in_err-numbers.ensures in
     late (shape_tests x.m x.q x.s) (number_tests (total x.s) x.counts ++ ((7, not x.inside) ∷ [])) c.in_ok-shapes.ensures
-    (out-front (number_tests (total x.s) x.counts) ((7, not x.inside) ∷ []) _ _ c.from_residual-in_err-numbers.ensures.1 (rw (c.entries_in.ensures.0, c.entries_in-2.ensures.0) at c.in_err-numbers.ensures))
+    (out-front (number_tests (total x.s) x.counts) ((7, not x.inside) ∷ []) _ _ c.from_residual-in_err-numbers.ensures.1 counted)
 
 pub returns : goal.returns
 unfolding rule_tests_by
 returns c =
     let x = c.args in
+    let counted = rw (c.entries_in.ensures.0, c.entries_in-2.ensures.0) at c.in_ok-numbers.ensures in
     late (shape_tests x.m x.q x.s) (number_tests (total x.s) x.counts ++ ((7, not x.inside) ∷ [])) c.in_ok-shapes.ensures
-    (late (number_tests (total x.s) x.counts) ((7, not x.inside) ∷ []) (rw (c.entries_in.ensures.0, c.entries_in-2.ensures.0) at c.in_ok-numbers.ensures) (required _ x.inside EntryPlace c.require.ensures))
+    (late (number_tests (total x.s) x.counts) ((7, not x.inside) ∷ []) counted (required _ x.inside EntryPlace c.require.ensures))
