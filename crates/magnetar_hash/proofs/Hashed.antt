@@ -54,4 +54,5 @@ hashed-parts d p n e =
     ∙ append_assoc (le_bytes 8 2) (framed (d ∷ [])) (l ++ p)
     ∙ ap (λ (r : List ℕ). le_bytes 8 2 ++ r) (ap (λ (r : List ℕ). framed (d ∷ []) ++ r) (framed-one p) ∙ sym (framed-append (d ∷ []) (p ∷ [])))
     in
-    rw (within-fed (started d n) p, within-started d n, e) (ap finished (sym (fed-append z (h ++ l) p) ∙ ap (fed z) f) ∙ sha3-fed (serialize_parts (d ∷ p ∷ [])))
+    rw (within-fed (started d n) p, within-started d n, e)
+    (ap finished (sym (fed-append z (h ++ l) p) ∙ ap (fed z) f) ∙ sha3-fed (serialize_parts (d ∷ p ∷ [])))

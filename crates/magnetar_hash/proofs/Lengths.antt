@@ -21,11 +21,20 @@ pub used-none : (lens : List ℕ) (size : ℕ) → Used lens size size 0
 used-none lens size = record { within = omega arith; total = omega arith }
 
 pub used-more
-    : {lens : List ℕ} {size left i : ℕ} → Used lens size left i → i < length lens → get_or lens i 0 ≤ left → Used lens size (left - get_or lens i 0) (i + 1)
+    : {lens : List ℕ} {size left i : ℕ}
+    → Used lens size left i
+    → i < length lens
+    → get_or lens i 0 ≤ left
+    → Used lens size (left - get_or lens i 0) (i + 1)
 used-more {lens} {size} {left} {i} u h l =
     record { within = omega (arith, u.within); total = omega (arith, u.within, u.total, sum-next lens i h) }
 
-pub used_over : {lens : List ℕ} {size left i : ℕ} → Used lens size left i → i < length lens → left < get_or lens i 0 → false ≡ eqb (total_length lens) size
+pub used_over
+    : {lens : List ℕ} {size left i : ℕ}
+    → Used lens size left i
+    → i < length lens
+    → left < get_or lens i 0
+    → false ≡ eqb (total_length lens) size
 used_over {lens} {size} {left} {i} u h l =
     sym (ne_eqb (total_length lens) size (λ e. omega (arith, u.within, u.total, sum-next lens i h)))
 

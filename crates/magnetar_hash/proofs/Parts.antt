@@ -4,7 +4,6 @@ use Rattle.std.proofs.Common.{◌≡◌, ℕ, suc, ◌+◌, ◌<◌, ◌≤◌, 
 use Rattle.magnetar_hash.specs.Bytes.{le_bytes}
 use Rattle.magnetar_hash.specs.Parts.{framed, serialize_parts, sha3_domain, parts}
 use Rattle.magnetar_hash.specs.Sponge.{Fed, sponge, finished}
-use Rattle.magnetar_hash.proofs.Bytes.{length-le}
 use Rattle.magnetar_hash.proofs.Stream.{fed-join, sha3-of}
 use Rattle.magnetar_hash.proofs.Left.{Left, left-more, left-none}
 
@@ -23,9 +22,6 @@ pub part-fed
     : {t s u : List ℕ} {m n k x : ℕ} (p : List ℕ) → x ≡ length p → Fed t m (le_bytes 8 x) s n → Fed s n p u k → Fed t m (framed (p ∷ [])) u k
 part-fed {t} {s} {u} {m} {n} {k} p e f g =
     subst (λ (l : List ℕ). Fed t m l u k) (ap (λ (x : ℕ). le_bytes 8 x ++ p) e ∙ framed-one p) (fed-join f g)
-
-pub word-part-fed : {t s u : List ℕ} {m n k : ℕ} (w : ℕ) → Fed t m (le_bytes 8 8) s n → Fed s n (le_bytes 8 w) u k → Fed t m (framed (le_bytes 8 w ∷ [])) u k
-word-part-fed w f g = part-fed (le_bytes 8 w) (sym (length-le 8 w)) f g
 
 pub parts_join
     : {t s u : List ℕ} {m n k : ℕ} (ps qs : List (List ℕ)) → Fed t m (framed ps) s n → Fed s n (framed qs) u k → Fed t m (framed (ps ++ qs)) u k

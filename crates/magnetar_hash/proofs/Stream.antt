@@ -38,7 +38,10 @@ fed-append s [] q = refl
 fed-append s (b ∷ p) q = fed-append (turned (add_byte s.lanes s.fill b) (s.fill + 1)) p q
 
 -- less than a block
-fed-part-step : (s : List ℕ) (j b : ℕ) (p : List ℕ) → j + suc (length p) < rate → fed (sponge s j) (b ∷ p) ≡ fed (sponge (add_byte s j b) (suc j)) p
+fed-part-step
+    : (s : List ℕ) (j b : ℕ) (p : List ℕ)
+    → j + suc (length p) < rate
+    → fed (sponge s j) (b ∷ p) ≡ fed (sponge (add_byte s j b) (suc j)) p
 unfolding fed
 fed-part-step s j b p h = ap (λ (t : Sponge). fed t p) (turned-part (add_byte s j b) (j + 1) (omega arith) ∙ ap (sponge (add_byte s j b)) (add-one j))
 
@@ -147,7 +150,8 @@ sha3-fed m =
     let z : List ℕ = replicate 25 0 in
     let p : List ℕ = m ++ padding (rate - length m % rate) in
     let f : (fed (sponge z 0) m).fill ≡ length m % rate = fed-fill (sponge z 0) m (zero-lt-suc 135) ∙ ap (λ (k : ℕ). k % rate) (zero-add (length m)) in
-    let l : length p ≡ length m + (rate - length m % rate) = length-append m (padding (rate - length m % rate)) ∙ ap (λ (k : ℕ). length m + k) (length-padding (rate - length m % rate)) in
+    let n : ℕ = rate - length m % rate in
+    let l : length p ≡ length m + n = length-append m (padding n) ∙ ap (λ (k : ℕ). length m + k) (length-padding n) in
     let b : length p ≡ length p / rate * rate = omega arith in
     ap (λ (k : ℕ). squeezed (fed (fed (sponge z 0) m) (padding (rate - k))).lanes) f
     ∙ ap (λ (t : Sponge). squeezed t.lanes) (sym (fed-append (sponge z 0) m (padding (rate - length m % rate))) ∙ fed-blocks (length p / rate) z p b)

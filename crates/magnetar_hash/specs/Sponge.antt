@@ -17,6 +17,10 @@ sponge s n = record { lanes = s; fill = n }
 unfoldable pub turned : List ℕ → ℕ → Sponge
 turned s n = cond (nat_lt n rate) (sponge s n) (sponge (permuted s) 0)
 
+-- the sponge that has taken in nothing
+abbrev pub empty : Sponge
+empty = sponge (replicate 25 0) 0
+
 -- bytes are taken in
 unfoldable pub fed : Sponge → List ℕ → Sponge
 fed s [] = s
@@ -43,3 +47,10 @@ pub record ValidFill (s : List ℕ) (n : ℕ) : Type 0 where
 pub record Fed (t : List ℕ) (m : ℕ) (p : List ℕ) (s : List ℕ) (n : ℕ) : Type 0 where
   pub state : sponge s n ≡ fed (sponge t m) p
   pub ready : ValidFill s n
+
+-- the same of sponges
+abbrev pub Ready : Sponge → Type 0
+Ready s = ValidFill s.lanes s.fill
+
+abbrev pub Takes : Sponge → List ℕ → Sponge → Type 0
+Takes t p s = Fed t.lanes t.fill p s.lanes s.fill

@@ -4,8 +4,6 @@ ghost use Rattle.std.specs.Prelude.{◌≡◌};
 ghost use Rattle.magnetar_hash.specs.Bytes.{word_bytes};
 ghost use Rattle.magnetar_hash.specs.Sponge.{fed, finished, started, within};
 
-use crate::{sha3, sponge};
-
 // The 25 lanes of a state, and how many bytes of a block have been added to it.
 #[derive(Clone, Copy)]
 pub struct Sponge {
@@ -17,25 +15,36 @@ pub struct Sponge {
 pub fn start(domain: &[u8], size: u64) -> Sponge
     ensures { result ≡ started domain.now size }
 {
-    let mut s = [0u64; 25];
-    let a = sponge::feed_word(&mut s, 0, 2);
-    let b = sha3::feed_part(&mut s, a, domain);
-    let c = sponge::feed_word(&mut s, b, size);
-    Sponge { lanes: s, fill: c }
+    let mut sponge = Sponge::empty();
+    sponge.feed_word(2);
+    sponge.feed_part(domain);
+    sponge.feed_word(size);
+    sponge
+}
+
+// The sponge with its fill within a block.
+fn within(s: Sponge) -> Sponge
+    ensures { result ≡ within s }
+{
+    let lanes = s.lanes;
+    Sponge {
+        lanes,
+        fill: s.fill % 136,
+    }
 }
 
 // The bytes of words are taken in.
 pub fn feed(s: Sponge, words: &[u64]) -> Sponge
     ensures { result ≡ fed (within s) (word_bytes words.now) }
 {
-    let mut lanes = s.lanes;
-    let fill = sponge::feed_words(&mut lanes, s.fill % 136, words);
-    Sponge { lanes, fill }
+    let mut t = within(s);
+    t.feed_words(words);
+    t
 }
 
 // The hash of all that has been taken in.
 pub fn finish(s: Sponge) -> [u8; 32]
     ensures { result ≡ finished (within s) }
 {
-    sponge::finish(s.lanes, s.fill % 136)
+    within(s).finish()
 }

@@ -1,13 +1,14 @@
 // The transcript that both ends draw their challenges from. It goes by value: a function takes it and hands the next one back.
-ghost use Rattle.std.specs.Prelude.{◌≡◌, ◌*◌, ◌/◌, ◌^◌, ◌<◌, [], ◌∷◌, ◌++◌, length, drop, slice_index, nat_lt, if◌then◌else◌, Ok, Err};
+ghost use Rattle.std.specs.Prelude.{◌≡◌, ◌*◌, ◌/◌, ◌^◌, [], ◌∷◌, ◌++◌, length, drop, nat_lt, if◌then◌else◌, Ok, Err};
 ghost use Rattle.magnetar_field.specs.declared.refusal.Refusal.TheVariants.{Counter};
 ghost use Rattle.magnetar_field.specs.Gf128.{value};
 ghost use Rattle.magnetar_hash.specs.Bytes.{le_bytes, word_bytes};
-ghost use Rattle.magnetar_hash.specs.Parts.{framed, parts, total_length};
-ghost use Rattle.magnetar_hash.specs.Sponge.{Fed, ValidFill};
+ghost use Rattle.magnetar_hash.specs.Parts.{framed};
+ghost use Rattle.magnetar_hash.specs.Sponge.{Takes, empty};
 ghost use Rattle.magnetar_hash.specs.Transcript as spec;
 
-use crate::{sha3, sponge};
+use crate::hasher::Sponge;
+use crate::sha3;
 use magnetar_field::gf128::Gf128;
 use magnetar_field::refusal::{Refusal, require};
 
@@ -42,12 +43,13 @@ pub fn new(protocol: &[u8], public: &[u8], lens: &[usize]) -> Result<Transcript,
     ensures { spec.new_answer_of result ≡ spec.new_answer protocol.now public.now lens.now }
 {
     require(sha3::add_up(lens, public.len()), Refusal::PartLengths)?;
-    let mut s = [0u64; 25];
-    let a = sponge::feed_word(&mut s, 0, lens.len() as u64 + 2);
-    let b = sha3::feed_part(&mut s, a, b"magnetar/transcript/v1");
-    let c = sha3::feed_part(&mut s, b, protocol);
-    let d = sha3::feed_parts(&mut s, c, public, lens);
-    Ok(undrawn(sponge::finish(s, d)))
+    let mut sponge = Sponge::empty();
+    sponge.feed_word(lens.len() as u64 + 2);
+    sponge.feed_part(b"magnetar/transcript/v1");
+    sponge.feed_part(protocol);
+    sponge.feed_parts(public, lens);
+    let state = sponge.finish();
+    Ok(undrawn(state))
 }
 
 // A transcript with this state, from which nothing has been drawn.
@@ -68,25 +70,25 @@ fn on_time(t: Transcript) -> Result<Transcript, Refusal>
     Ok(t)
 }
 
-// The first three of the four parts that an absorption and a draw hash, after the count of the parts.
-fn feed_head(s: &mut [u64; 25], t: Transcript, tag: &[u8], label: &[u8]) -> usize
-    requires { ValidFill s.old 0 }
-    ensures { Fed s.old 0 (le_bytes 8 4 ++ framed (t.state ∷ tag.now ∷ label.now ∷ [])) s.new result }
+// The sponge that has taken in the count of the four parts that an absorption and a draw hash, and the first three of them.
+fn headed(t: Transcript, tag: &[u8], label: &[u8]) -> Sponge
+    ensures { Takes empty (le_bytes 8 4 ++ framed (t.state ∷ tag.now ∷ label.now ∷ [])) result }
 {
-    let a = sponge::feed_word(s, 0, 4);
-    let b = sha3::feed_part(s, a, &t.state);
-    let c = sha3::feed_part(s, b, tag);
-    sha3::feed_part(s, c, label)
+    let mut sponge = Sponge::empty();
+    sponge.feed_word(4);
+    sponge.feed_part(&t.state);
+    sponge.feed_part(tag);
+    sponge.feed_part(label);
+    sponge
 }
 
 // Bytes are absorbed under a label. Refuses 14.
 pub fn absorb_bytes(t: Transcript, label: &[u8], bytes: &[u8]) -> Result<Transcript, Refusal>
     ensures { spec.answer_of t result ≡ spec.absorb_answer t label.now bytes.now }
 {
-    let mut s = [0u64; 25];
-    let a = feed_head(&mut s, on_time(t)?, b"absorb", label);
-    let b = sha3::feed_part(&mut s, a, bytes);
-    Ok(undrawn(sponge::finish(s, b)))
+    let mut sponge = headed(on_time(t)?, b"absorb", label);
+    sponge.feed_part(bytes);
+    Ok(undrawn(sponge.finish()))
 }
 
 // The bytes of words are absorbed under a label. A run refuses 14 where it starts, and its draws may pass 2^32: so the layers above
@@ -94,10 +96,9 @@ pub fn absorb_bytes(t: Transcript, label: &[u8], bytes: &[u8]) -> Result<Transcr
 pub fn absorb_words(t: Transcript, label: &[u8], words: &[u64]) -> Transcript
     ensures { result ≡ spec.absorbed t label.now (word_bytes words.now) }
 {
-    let mut s = [0u64; 25];
-    let a = feed_head(&mut s, t, b"absorb", label);
-    let b = sha3::feed_words_part(&mut s, a, words);
-    undrawn(sponge::finish(s, b))
+    let mut sponge = headed(t, b"absorb", label);
+    sponge.feed_words_part(words);
+    undrawn(sponge.finish())
 }
 
 // Elements are absorbed under a label. Refuses 11, then 14.
@@ -126,11 +127,10 @@ pub fn absorb_digest(t: Transcript, label: &[u8], d: &[u8; 32]) -> Result<Transc
 pub fn draw(t: Transcript, label: &[u8]) -> Transcript
     ensures { result ≡ spec.drawn t label.now }
 {
-    let mut s = [0u64; 25];
-    let a = feed_head(&mut s, t, b"squeeze", label);
-    let b = sha3::feed_part(&mut s, a, &t.squeeze_ctr.to_le_bytes());
+    let mut sponge = headed(t, b"squeeze", label);
+    sponge.feed_part(&t.squeeze_ctr.to_le_bytes());
     Transcript {
-        state: sponge::finish(s, b),
+        state: sponge.finish(),
         squeeze_ctr: t.squeeze_ctr.wrapping_add(1),
     }
 }
@@ -183,7 +183,7 @@ pub fn challenge_field_vec(
     ensures { (spec.answer_of t result ≡ spec.draws_answer t label.now n (length out.old))
         × (out.new ≡ spec.draws_out t label.now n out.old) }
 {
-    require(t.squeeze_ctr < COUNTER_LIMIT, Refusal::Counter)?;
+    on_time(t)?;
     require(n <= out.len() / 2, Refusal::Room)?;
     Ok(draw_vec(t, label, &mut out[..2 * n]))
 }

@@ -5,4 +5,4 @@ use Rattle.magnetar_hash.proofs.hasher.start.Goals as goal
 pub returns : goal.returns
 unfolding started
 returns c =
-    (fed-join (fed-join c.feed_word-a.ensures c.feed_part-b.ensures) c.feed_word-c.ensures).state
+    (fed-join (fed-join (rw c.empty-sponge.ensures at c.feed_word.ensures) c.feed_part.ensures) c.feed_word-2.ensures).state

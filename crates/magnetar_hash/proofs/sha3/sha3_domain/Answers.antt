@@ -4,8 +4,8 @@ use Rattle.magnetar_hash.proofs.Parts.{domain-of}
 use Rattle.magnetar_hash.proofs.Tests.{met, unmet}
 use Rattle.magnetar_hash.proofs.sha3.sha3_domain.Goals as goal
 
-pub serialize_parts-n-requires : goal.serialize_parts-n-requires
-serialize_parts-n-requires c =
+pub serialize_parts-requires : goal.serialize_parts-requires
+serialize_parts-requires c =
     let m = met _ _ _ _ _ c.require.ensures c.in_ok-require.was in
     (search rules, eqb-true _ _ (sym c.add_up.ensures ∙ m.0))
 
@@ -20,8 +20,9 @@ unfolding domain_answer
 returns c =
     let a = c.args in
     let m = met _ _ _ _ _ c.require.ensures c.in_ok-require.was in
+    let f = rw c.empty-sponge.ensures at c.serialize_parts.ensures in
     rw (
       sym c.add_up.ensures ∙ m.0,
       c.finish.ensures,
-      domain-of (parts a.lens.now a.bytes.now) c.serialize_parts-n.ensures,
+      domain-of (parts a.lens.now a.bytes.now) f,
     )

@@ -15,5 +15,5 @@ unfolding absorb_answer absorbed ascii unless_late
 returns c =
     let a = c.args in
     let m = met _ _ _ _ _ c.on_time.ensures c.in_ok-on_time.was in
-    let f = rw m.1 at c.feed_head-a.ensures in
-    rw (m.0, c.undrawn.ensures, c.finish.ensures, four-parts a.t.state (ascii "absorb") a.label.now a.bytes.now f c.feed_part-b.ensures)
+    let f = rw m.1 at c.headed-sponge.ensures in
+    rw (m.0, c.undrawn.ensures, c.finish.ensures, four-parts a.t.state (ascii "absorb") a.label.now a.bytes.now f c.feed_part.ensures)

@@ -10,5 +10,5 @@ returns c =
     rw (
       c.undrawn.ensures,
       c.finish.ensures,
-      four-parts a.t.state (ascii "absorb") a.label.now (word_bytes a.words.now) c.feed_head-a.ensures c.feed_words_part-b.ensures,
+      four-parts a.t.state (ascii "absorb") a.label.now (word_bytes a.words.now) c.headed-sponge.ensures c.feed_words_part.ensures,
     )

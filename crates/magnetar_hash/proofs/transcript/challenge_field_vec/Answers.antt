@@ -7,22 +7,22 @@ use Rattle.magnetar_hash.proofs.transcript.challenge_field_vec.Goals as goal
 
 pub slice_bounds-draw_vec-end : goal.slice_bounds-draw_vec-end
 slice_bounds-draw_vec-end c =
-    let n = met _ _ _ _ _ c.require-2.ensures c.in_ok-require-2.was in
+    let n = met _ _ _ _ _ c.require.ensures c.in_ok-require.was in
     let h = leb-true _ _ n.0 in
     omega arith
+
+pub returns-in_err-on_time : goal.returns-in_err-on_time
+unfolding draws_answer draws_out draws_code
+returns-in_err-on_time c =
+    let u = unmet _ _ _ _ _ _ c.on_time.ensures c.in_err-on_time.was c.from_residual.ensures.1 in
+    simp (u.1, u.0) (refl, refl)
 
 pub returns-in_err-require : goal.returns-in_err-require
 unfolding draws_answer draws_out draws_code
 returns-in_err-require c =
-    let u = unmet _ _ _ _ _ _ c.require.ensures c.in_err-require.was c.from_residual.ensures.1 in
-    simp (u.1, u.0) (refl, refl)
-
-pub returns-in_err-require-2 : goal.returns-in_err-require-2
-unfolding draws_answer draws_out draws_code
-returns-in_err-require-2 c =
     let a = c.args in
-    let m = met _ _ _ _ _ c.require.ensures c.in_ok-require.was in
-    let u = unmet _ _ _ _ _ _ c.require-2.ensures c.in_err-require-2.was c.from_residual-in_err-require-2.ensures.1 in
+    let m = met _ _ _ _ _ c.on_time.ensures c.in_ok-on_time.was in
+    let u = unmet _ _ _ _ _ _ c.require.ensures c.in_err-require.was c.from_residual-in_err-require.ensures.1 in
     let h : length a.out.now / 2 < a.n = leb-false _ _ u.0 in
     let e : ltb (length a.out.now) (2 * a.n) ≡ true = lt-ltb (length a.out.now) (2 * a.n) (omega arith) in
     simp (u.1, m.0, e) (refl, refl)
@@ -31,8 +31,8 @@ pub returns : goal.returns
 unfolding draws_answer draws_out draws_code
 returns c =
     let a = c.args in
-    let m = met _ _ _ _ _ c.require.ensures c.in_ok-require.was in
-    let n = met _ _ _ _ _ c.require-2.ensures c.in_ok-require-2.was in
+    let m = met _ _ _ _ _ c.on_time.ensures c.in_ok-on_time.was in
+    let n = met _ _ _ _ _ c.require.ensures c.in_ok-require.was in
     let h : a.n ≤ length a.out.now / 2 = leb-true _ _ n.0 in
     let v = vec-done a.t a.label.now a.out.now a.n h c.draw_vec.ensures.0 c.draw_vec.ensures.1 in
     let e : ltb (length a.out.now) (2 * a.n) ≡ false = le-ltb (length a.out.now) (2 * a.n) (omega arith) in

@@ -8,8 +8,8 @@ pub returns : goal.returns
 unfolding drawn ascii
 returns c =
     let a = c.args in
-    let f = rw (c.to_le_bytes.ensures, le-eight) at c.feed_part-b.ensures in
+    let f = rw (c.to_le_bytes.ensures, le-eight) at c.feed_part.ensures in
     rw (
       c.finish.ensures,
-      four-parts a.t.state (ascii "squeeze") a.label.now (le_bytes 8 a.t.squeeze_ctr) c.feed_head-a.ensures f,
+      four-parts a.t.state (ascii "squeeze") a.label.now (le_bytes 8 a.t.squeeze_ctr) c.headed-sponge.ensures f,
     )

@@ -19,7 +19,8 @@ returns c =
     let d = ascii "magnetar/transcript/v1" in
     let ps = parts a.lens.now a.public.now in
     let e : length a.lens.now + 2 ≡ length (d ∷ a.protocol.now ∷ ps) = omega (arith, length-parts a.lens.now a.public.now) in
-    let f = parts_join (a.protocol.now ∷ []) ps c.feed_part-c.ensures c.feed_parts-d.ensures in
-    let g = serialized (d ∷ a.protocol.now ∷ ps) e c.feed_word-a.ensures (parts_join (d ∷ []) (a.protocol.now ∷ ps) c.feed_part-b.ensures f) in
+    let f = parts_join (a.protocol.now ∷ []) ps c.feed_part-2.ensures c.feed_parts.ensures in
+    let w = rw c.empty-sponge.ensures at c.feed_word.ensures in
+    let g = serialized (d ∷ a.protocol.now ∷ ps) e w (parts_join (d ∷ []) (a.protocol.now ∷ ps) c.feed_part.ensures f) in
     let m = met _ _ _ _ _ c.require.ensures c.in_ok-require.was in
-    rw (sym c.add_up.ensures ∙ m.0, c.undrawn.ensures, c.finish.ensures, domain-of (d ∷ a.protocol.now ∷ ps) g)
+    rw (sym c.add_up.ensures ∙ m.0, c.undrawn.ensures, c.finish-state.ensures, domain-of (d ∷ a.protocol.now ∷ ps) g)

@@ -2,7 +2,7 @@ use Rattle.std.proofs.Common.{arith}
 use Rattle.magnetar_hash.proofs.Left.{left-all}
 use Rattle.magnetar_hash.proofs.Lengths.{sum-next}
 use Rattle.magnetar_hash.proofs.Parts.{left-part, left-parts-end}
-use Rattle.magnetar_hash.proofs.sha3.feed_parts.Goals as goal
+use Rattle.magnetar_hash.proofs.hasher.Sponge.feed_parts.Goals as goal
 
 pub loop-len-init : goal.loop-len-init
 loop-len-init c = (c.requires.1, left-all _ c.requires.0)
@@ -15,7 +15,7 @@ loop-len-preserved c =
     let l = c.loop-len in
     let p = c.split_at.ensures in (
       omega (arith, sum-next c.args.lens.now l.len-index (omega arith), p.back_len),
-      left-part c.args.lens.now l.left.now _ _ l.len-index (omega arith) p.front p.back l.invariant.1 c.feed_part-n.ensures,
+      left-part c.args.lens.now l.left.now _ _ l.len-index (omega arith) p.front p.back l.invariant.1 c.feed_part.ensures,
     )
 
 pub returns : goal.returns

@@ -1,7 +1,7 @@
 use Rattle.std.proofs.Common.{ap, ◌∙◌}
 use Rattle.magnetar_hash.specs.Sha3.{squeezed}
 use Rattle.magnetar_hash.specs.Sponge.{finished}
-use Rattle.magnetar_hash.proofs.sponge.finish.Goals as goal
+use Rattle.magnetar_hash.proofs.hasher.Sponge.finish.Goals as goal
 
 pub returns : goal.returns
 unfolding finished
