@@ -100,7 +100,7 @@ fault late-absorption magnetar_hash/src/transcript.rt 'if old.squeeze_ctr < COUN
 # a later equal entry replaces an earlier one
 fault later-entry magnetar_matrix/src/step.rt 'words::put(out, k, gf128::add(v, e));' 'words::put(out, k, e);'
 # bits past the columns of a login are read
-fault upper-bits magnetar_batch/src/fold.rt 'return word % (1 << n);' 'return word;'
+fault upper-bits magnetar_batch/src/fold.rt 'word % (1 << n)' 'word'
 # one round constant of the permutation
 fault round-constant magnetar_keccak/src/keccak.rt 0x8000000080008000 0x8000000080008001
 # a label
@@ -109,19 +109,19 @@ fault label magnetar_prover/src/events.rt 'b"vs-vz"' 'b"vs-vx"'
 fault counts magnetar_relation/src/rules.rt 'let n = entries_in(b) + entries_in(f);' 'let n = r;'
 # the entries of fld begin behind as many entries of C of bin as B has
 fault border magnetar_relation/src/range.rt 'after(b, t.c.entries, n)' 'after(b, t.b.entries, n)'
-# over records alone, the second matrix of a system takes the third one's alpha
-fault record-alpha magnetar_batch/src/combo_records.rt 'add_matrix(es, s, m, n, al, j, p, b, c);' 'add_matrix(es, s, m, n, al, k, p, b, c);'
+# the second matrix of a system takes the third one's alpha
+fault record-alpha magnetar_batch/src/combo.rt 'add_matrix(s, m, n, al, k + 1, p, &b);' 'add_matrix(s, m, n, al, k + 2, p, &b);'
 # the verifier's scratch: the former number of words is asked for; all words of the former formula are cleared where they are lent
 fault former-scratch magnetar_protocol/src/scratch.rt '    2 * m + 2 * sizes::larger(rb, rf) + 2 * q' '    4 * m + 4 * sizes::larger(rb, rf) + 2 * q'
 fault former-cleared magnetar_spartan/src/stages.rt 'step::clear_front(i + q, s);' 'step::clear_front(sizes::least(2 * i + q, h), s);'
 # the verifier's value of the combined table: the second matrix of a system takes the first one's alpha; the row point's order is reversed
 fault one-alpha magnetar_batch/src/value.rt 'words::get(&al, i + 1)' 'words::get(&al, i)'
 fault row-point magnetar_batch/src/value.rt 'words::get(p, j)' 'words::get(p, n - 1 - j)'
-# over records alone, the third matrix's records count for the second too
-fault record-rows magnetar_batch/src/eval_records.rt 'let y = matrix_value(es, s, k, m, n, p, b, c);' 'let y = matrix_value(es, s, k, m, n, p, b, d);'
+# the third matrix's entries count for the second
+fault record-rows magnetar_batch/src/eval.rt 'let y = matrix_value(s, k, m, n, p, &b);' 'let y = matrix_value(s, k, m, n, p, &c);'
 # public columns of login 0 for every login: in the packed products, in the folded public half, in the row check and over records
 fault first-products magnetar_r1cs/src/r1cs.rt 'if columns::repeats(x, l) {' 'if l <= x.len() {'
-fault first-half magnetar_batch/src/fold.rt 'let a = u * l;' 'let a = 0 * l;'
+fault first-half magnetar_batch/src/fold.rt '&x[u * l..]' '&x[0 * l..]'
 fault first-login magnetar_relation/src/login.rt 'let a = login_start(u, k, x.len());' 'let a = login_start(0, k, x.len());'
 # stray bits: a failing row is told before them; the highest column of a word is told; only the first word of a login is looked at; the
 # row check takes any segments

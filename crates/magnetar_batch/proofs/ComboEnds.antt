@@ -20,8 +20,7 @@ use Rattle.magnetar_layout.proofs.FirstRefusal.{first-refusal-clear}
 use Rattle.magnetar_field.proofs.Handed.{handed}
 use Rattle.magnetar_layout.proofs.Passing.{out as refused_by, out-front, late}
 use Rattle.magnetar_layout.proofs.Refused.{number-positive}
-use Rattle.magnetar_layout.proofs.SizeLaws.{not-bad}
-use Rattle.magnetar_r1cs.proofs.Points.{log-most}
+use Rattle.magnetar_layout.proofs.SizeLaws.{not-bad, log-most}
 use Rattle.magnetar_matrix.specs.Batch.{Relation}
 use Rattle.magnetar_relation.specs.Rules.{Rules, relation_of, in_relation}
 use Rattle.magnetar_relation.specs.RuleTests.{rule_tests, rule_tests_by, shape_tests, number_tests, total}

@@ -1,23 +1,14 @@
 -- One slice that holds a table and, behind it, other elements.
 -- Assumes nothing.
-use Rattle.std.specs.Prelude.{◌≡◌, ℕ, zero, suc, ◌+◌, ◌-◌, ◌*◌, ◌%◌, ◌^◌, ◌<◌, ◌≤◌, List, [], ◌∷◌, ◌++◌, length, get_or, take, drop, replicate}
-use mathlib.Core.Path.{refl, sym, ap, ◌∙◌}
+use Rattle.std.specs.Prelude.{◌≡◌, ℕ, zero, suc, ◌+◌, ◌-◌, ◌*◌, ◌^◌, List, [], ◌∷◌, ◌++◌, length, take, drop}
+use mathlib.Core.Path.{refl, ap}
 use mathlib.Core.List.{append-nil}
-use native.Mathlib.Nat.{le_of_suc-le-suc}
 use native.Mathlib.Omega.{arith}
 use lib.ListN.{length-drop, drop_of_length-le}
-use lib.Seq.{take_all, take_at, drop_at, drop-drop, length-take-le, get_or-take}
+use lib.Seq.{take_all}
 use lib.Pow.{split}
 use borrow.Rule.Slice.PartMut.{put_mid}
-use Rattle.magnetar_field.specs.Tabulate.{tabulate}
 use Rattle.magnetar_field.specs.Words.{elements, words}
-use Rattle.magnetar_multilinear.specs.EqTable.{eq_table}
-use Rattle.magnetar_multilinear.specs.Entries.{eq_refusal, eq_out, table_words}
-use Rattle.magnetar_field.proofs.Elements.{elements-drop, words-elements}
-use Rattle.magnetar_multilinear.proofs.EqTables.{from_one}
-use Rattle.magnetar_multilinear.proofs.Refusals.{eq-none}
-use Rattle.magnetar_matrix.specs.Table.{raised}
-use Rattle.magnetar_matrix.proofs.TableLaws.{elements-zero, raised-length, raised-get, raised_is}
 
 -- ---- the part behind the first k words, lent and back
 pub back-part : (s : List ℕ) (k : ℕ) → take (length s - k) (drop k s) ≡ drop k s

@@ -33,10 +33,10 @@ use Rattle.magnetar_batch.specs.TableSteps.{eq_behind, cleared_behind, point_in,
 -- ---- the steps' parts of the words
 -- with a point that a step reads
 pub eq-behind-read : (m n l j c : ℕ) (p s t : List ℕ) → 2 * m ≤ length s → l ≡ min (2 * j) 32 → j ≡ log₂ n
-    → t ≡ eq_out (take (l - 0) p) c (take (length s - 2 * m) (drop (2 * m) s)) → put_mid (2 * m) (length s - 2 * m) s t ≡ eq_behind m c (point_in n p) s
+    → t ≡ eq_out (take l p) c (take (length s - 2 * m) (drop (2 * m) s)) → put_mid (2 * m) (length s - 2 * m) s t ≡ eq_behind m c (point_in n p) s
 unfolding eq_behind
 eq-behind-read m n l j c p s t h hl hj e =
-    let d : l - 0 ≡ min (2 * log₂ n) 32 = omega (arith, ap (λ (i : ℕ). 2 * i) hj) in
+    let d : l ≡ min (2 * log₂ n) 32 = omega (arith, ap (λ (i : ℕ). 2 * i) hj) in
     behind-some m (eq_out (point_in n p) c) s t h (e ∙ rw d)
 
 pub eq-behind-none : (m c : ℕ) (p s : List ℕ) → length s < 2 * m → s ≡ eq_behind m c p s
@@ -44,13 +44,9 @@ unfolding eq_behind
 eq-behind-none m c p s h = behind-none m (eq_out p c) s h
 
 -- the first m elements, copied and cleared
-pub moved : (m : ℕ) (s t o out : List ℕ) → 2 * m ≤ length s → o ≡ overlaid (take (2 * m - 0) s) out → t ≡ replicate (length (take (2 * m - 0) s)) 0
-    → (o ≡ overlaid (take (2 * m) s) out) × (t ++ drop (2 * m - 0) s ≡ cleared_to m s)
-moved m s t o out h e f =
-    let d : 2 * m - 0 ≡ 2 * m = omega arith in (
-      e ∙ ap (λ (k : ℕ). overlaid (take k s) out) d,
-      ap (λ (k : ℕ). t ++ drop k s) d ∙ cleared-words m s t h (f ∙ ap (λ (k : ℕ). replicate (length (take k s)) 0) d),
-    )
+pub moved : (m : ℕ) (s t o out : List ℕ) → 2 * m ≤ length s → o ≡ overlaid (take (2 * m) s) out → t ≡ replicate (length (take (2 * m) s)) 0
+    → (o ≡ overlaid (take (2 * m) s) out) × (t ++ drop (2 * m) s ≡ cleared_to m s)
+moved m s t o out h e f = (e, cleared-words m s t h f)
 
 pub moved_none : (m : ℕ) (s o out : List ℕ) → length s < 2 * m → o ≡ overlaid s out → (o ≡ overlaid (take (2 * m) s) out) × (s ≡ cleared_to m s)
 moved_none m s o out h e = (e ∙ ap (λ (u : List ℕ). overlaid u out) (sym (take_all (2 * m) s (omega arith))), cleared-none m s h)

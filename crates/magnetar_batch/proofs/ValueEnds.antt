@@ -31,8 +31,7 @@ use Rattle.magnetar_layout.proofs.FirstRefusal.{first-refusal-clear, front-none,
 use Rattle.magnetar_field.proofs.Handed.{handed}
 use Rattle.magnetar_layout.proofs.Passing.{out, out-front, late}
 use Rattle.magnetar_layout.proofs.Refused.{number-positive}
-use Rattle.magnetar_layout.proofs.SizeLaws.{not-bad}
-use Rattle.magnetar_r1cs.proofs.Points.{log-most}
+use Rattle.magnetar_layout.proofs.SizeLaws.{not-bad, log-most}
 use Rattle.magnetar_matrix.specs.Matrix.{Entry, Matrix, System, row_total, share, swapped, times_at, times}
 use Rattle.magnetar_matrix.specs.Batch.{Relation}
 use Rattle.magnetar_matrix.specs.Combined.{combined_table, value_by_rows, combined_by_rows}
@@ -45,7 +44,8 @@ use Rattle.magnetar_relation.specs.EntryWalks.{fold_entries}
 use Rattle.magnetar_batch.specs.Entries.{combo_scratch_of}
 use Rattle.magnetar_batch.specs.TableSteps.{eq_behind, point_in}
 use Rattle.magnetar_batch.specs.Value.{value_refusal, combo_value, valued, value_outcome}
-use Rattle.magnetar_batch.specs.ValueSteps.{front_value, front_cleared, row_added, rows_made, matrix_value, matrix_left, weighed, system_value, system_left, larger_rows, factors_behind, six_value, six_left}
+use Rattle.magnetar_batch.specs.ValueSteps.{front_value, front_cleared, row_added, rows_made, matrix_value, matrix_left}
+use Rattle.magnetar_batch.specs.ValueSteps.{weighed, system_value, system_left, larger_rows, factors_behind, six_value, six_left}
 use Rattle.magnetar_batch.proofs.ColumnLaws.{dot-six}
 use Rattle.magnetar_batch.proofs.Rooms.{elements-behind}
 use Rattle.magnetar_batch.proofs.TableWalk.{columns-are}

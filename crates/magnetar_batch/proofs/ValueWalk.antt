@@ -1,7 +1,8 @@
 -- How the combined table's value at a column point is made, step by step: a table in front taken at a point, the rows of a matrix, and that
 -- six matrices leave the value that is combined row by row.
 -- Assumes nothing.
-use Rattle.std.specs.Prelude.{◌≡◌, ℕ, zero, suc, ◌+◌, ◌-◌, ◌*◌, ◌/◌, ◌%◌, ◌^◌, ◌<◌, ◌≤◌, min, max, true, false, List, [], ◌∷◌, ◌++◌, map, length, get_or, take, drop, replicate}
+use Rattle.std.specs.Prelude.{◌≡◌, ℕ, zero, suc, ◌+◌, ◌-◌, ◌*◌, ◌/◌, ◌%◌, ◌^◌, ◌<◌, ◌≤◌, min}
+use Rattle.std.specs.Prelude.{max, true, false, List, [], ◌∷◌, ◌++◌, map, length, get_or, take, drop, replicate}
 use mathlib.Core.Path.{refl, sym, ap, ap₂, ◌∙◌, subst}
 use mathlib.Core.List.{append_assoc}
 use native.Mathlib.Nat.{mod-eq_of_lt, two-pow-succ}
@@ -21,8 +22,7 @@ use Rattle.magnetar_multilinear.specs.Multilinear.{mle, bind_var}
 use Rattle.magnetar_multilinear.proofs.Evaluating.{Evaluating, evaluating-more}
 use Rattle.magnetar_multilinear.proofs.Refusals.{bind-none}
 use Rattle.magnetar_layout.specs.Tests.{is_size}
-use Rattle.magnetar_layout.proofs.SizeLaws.{sized}
-use Rattle.magnetar_r1cs.proofs.Points.{log-most}
+use Rattle.magnetar_layout.proofs.SizeLaws.{sized, log-most}
 use Rattle.magnetar_matrix.specs.Matrix.{Entry, swapped}
 use Rattle.magnetar_relation.specs.declared.shapes.SystemShape.{SystemShape}
 use Rattle.magnetar_relation.specs.declared.shapes.Shapes.{Shapes}
@@ -32,7 +32,8 @@ use Rattle.magnetar_relation.specs.EntryWalks.{fold_entries}
 use Rattle.magnetar_relation.proofs.RangeLaws.{same_drop, system-cut}
 use Rattle.magnetar_relation.proofs.TableWords.{cleared-words}
 use Rattle.magnetar_batch.specs.TableSteps.{eq_behind, point_in}
-use Rattle.magnetar_batch.specs.ValueSteps.{front_value, front_cleared, row_added, rows_made, matrix_value, matrix_left, weighed, system_value, system_left, six_value, six_left}
+use Rattle.magnetar_batch.specs.ValueSteps.{front_value, front_cleared, row_added, rows_made, matrix_value}
+use Rattle.magnetar_batch.specs.ValueSteps.{matrix_left, weighed, system_value, system_left, six_value, six_left}
 use Rattle.magnetar_batch.proofs.Rooms.{elements-take, elements-behind}
 
 -- ---- the highest variable bound

@@ -198,7 +198,8 @@ fn add_half(x: &[u64], e: Gf128, s: &mut [u64])
 // next one has the same columns, e is held back for it.
 fn add_or_hold(x: &[u64], l: usize, left: usize, e: Gf128, s: &mut [u64]) -> Gf128
     requires { l ≤ length x.now }
-    ensures held { raised (half_times (elements (take l (drop l x.now))) (value result)) (elements s.new) ≡ raised (half_times (elements (take l x.now)) (value e)) (elements s.old) }
+    ensures held { raised (half_times (elements (take l (drop l x.now))) (value result)) (elements s.new)
+        ≡ raised (half_times (elements (take l x.now)) (value e)) (elements s.old) }
     ensures last { left ≤ 1 → value result ≡ 0 }
 {
     if left > 1 && columns::repeats(x, l) {

@@ -1,4 +1,4 @@
-// What the combined table is made of: the eq table behind it, its room cleared, its arguments as arrays, and its refusals by numbers. Each is
+// What the combined table is made of: the eq table behind it, its room cleared, its arguments as arrays, and its refusals. Each is
 // total: it leaves words that are too few as they are.
 ghost use Rattle.std.specs.Prelude.{◌≡◌, ◌+◌, ◌*◌, max, take, nat_lt, slice_index};
 ghost use Rattle.magnetar_field.specs.Gf128.{value};
@@ -24,7 +24,7 @@ pub(crate) fn eq_from(s: &mut [u64], m: usize, n: usize, c: Gf128, p: [u64; 32])
 {
     let l = (2 * sizes::log2(n)).min(32);
     if m <= s.len() / 2 {
-        let _done = EqBits::build(&p[0..l], c, &mut s[2 * m..]);
+        let _done = EqBits::build(&p[..l], c, &mut s[2 * m..]);
     }
 }
 
@@ -37,6 +37,7 @@ pub(crate) fn eq_behind(s: &mut [u64], m: usize, n: usize, al: [u64; 12], k: usi
 }
 
 // Adds an entry's value times the element at its row, of the n behind the first m, to the element at its column.
+#[tactic(auto, unfolding(magnetar_relation::specs::Steps::column_added))]
 pub(crate) fn add_column(m: usize, n: usize, s: &mut [u64], e: Entry)
     ensures { s.new ≡ column_added m n (entry_of e) s.old }
 {
@@ -75,9 +76,8 @@ pub(crate) fn move_table(m: usize, s: &mut [u64], out: &mut [u64])
     ensures { (out.new ≡ overlaid (take (2 * m) s.old) out.old) × (s.new ≡ cleared_to m s.old) }
 {
     if m <= s.len() / 2 {
-        let k = 2 * m;
-        words::copy(&s[0..k], out);
-        words::clear(&mut s[0..k]);
+        words::copy(&s[..2 * m], out);
+        words::clear(&mut s[..2 * m]);
     } else {
         words::copy(s, out);
     }

@@ -47,6 +47,7 @@ fn bind_all(t: &mut [u64], p: &[u64], n: usize) -> Gf128
 
 // The value at the point p, for n rows, of the table of the first n elements, which are left 0. Where n is no such size, or there are
 // fewer elements, it is 0 and nothing changes.
+#[tactic(auto, using(crate::proofs::Chains::passed))]
 pub(crate) fn front_value(n: usize, p: [u64; 32], s: &mut [u64]) -> Gf128
     ensures { (value result ≡ front_value n p s.old) × (s.new ≡ front_cleared n s.old) }
 {
@@ -70,6 +71,7 @@ pub(crate) fn weigh(al: [u64; 12], j: usize, a: Gf128, b: Gf128, c: Gf128) -> Gf
 }
 
 // Clears the first k elements and the m behind them.
+#[tactic(auto, using(crate::proofs::Chains::none_cleared))]
 pub(crate) fn clear_both(s: &mut [u64], k: usize, m: usize)
     ensures { s.new ≡ cleared_to (k + m) s.old }
 {

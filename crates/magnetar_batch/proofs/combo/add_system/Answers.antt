@@ -1,4 +1,3 @@
-use mathlib.Core.Path.{refl}
 use Rattle.magnetar_matrix.specs.Numbers.{entries_by}
 use Rattle.magnetar_batch.proofs.TableWalk.{system-added}
 use Rattle.magnetar_batch.proofs.combo.add_system.Goals as goal

@@ -1,4 +1,3 @@
-use mathlib.Core.Path.{refl}
 use Rattle.magnetar_matrix.specs.Numbers.{entries_by}
 use Rattle.magnetar_batch.proofs.TableWalk.{both-added}
 use Rattle.magnetar_batch.proofs.combo.combine.Goals as goal

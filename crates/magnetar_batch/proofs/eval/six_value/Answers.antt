@@ -1,4 +1,3 @@
-use mathlib.Core.Path.{refl}
 use native.Mathlib.Omega.{arith}
 use Rattle.magnetar_matrix.specs.Numbers.{entries_by, counts}
 use Rattle.magnetar_batch.proofs.ValueWalk.{six-ends}

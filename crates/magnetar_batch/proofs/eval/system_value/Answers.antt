@@ -1,4 +1,3 @@
-use mathlib.Core.Path.{refl}
 use Rattle.magnetar_matrix.specs.Numbers.{entries_by}
 use Rattle.magnetar_batch.proofs.ValueWalk.{system-ends}
 use Rattle.magnetar_batch.proofs.eval.system_value.Goals as goal

@@ -5,8 +5,7 @@ use lib.ListN.{length-take}
 use Rattle.magnetar_field.specs.Gf128.{value}
 use Rattle.magnetar_field.specs.Sizes.{log₂}
 use Rattle.magnetar_layout.specs.Tests.{is_size}
-use Rattle.magnetar_layout.proofs.SizeLaws.{sized}
-use Rattle.magnetar_r1cs.proofs.Points.{log-most}
+use Rattle.magnetar_layout.proofs.SizeLaws.{sized, log-most}
 use Rattle.magnetar_batch.proofs.ValueWalk.{front-some, front-short, front-none}
 use Rattle.magnetar_batch.proofs.value.front_value.Goals as goal
 use Rattle.magnetar_batch.proofs.value.front_value.Goals.{else-is_size-via-then-is_size+else-n-s, else-is_size-via-else-is_size}
@@ -14,11 +13,6 @@ use Rattle.magnetar_batch.proofs.value.front_value.Goals.{else-is_size-via-then-
 -- the logarithm of a size
 small : (n k : ℕ) → is_size 1 65536 n ≡ true → k ≡ log₂ n → k ≤ 16
 small n k t e = let z = sized 1 65536 n t in omega (arith, e, log-most n z.high z.power)
-
-pub slice_bounds-p-end : goal.slice_bounds-p-end
-slice_bounds-p-end c =
-    let told = sym c.is_size.ensures ∙ c.if-is_size.true in
-    omega (arith, small c.args.n c.log2-l.result told c.log2-l.ensures.0)
 
 pub slice_bounds-bind_all-end-then-n-s-2 : goal.slice_bounds-bind_all-end-then-n-s-2
 slice_bounds-bind_all-end-then-n-s-2 c =
