@@ -418,9 +418,8 @@ pub fn apply_simd_bit_masks<E: Entries>(
 {
     matrix_refusal(rows, cols, es, packed, q, w)?;
     bits_refusal(es, q, w, v)?;
-    let s = sizes::log2(q);
-    let d = sizes::power_of_two(s - v);
-    let c = sizes::power_of_two(v);
+    let d = q >> v;
+    let c = 1 << v;
     let end = d * rows;
     require(end <= out.len(), Refusal::Room)?;
     masks::mask_all(es, packed, q, w, d, c, rows, &mut out[..end]);

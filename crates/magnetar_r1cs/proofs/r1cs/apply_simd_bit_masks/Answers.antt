@@ -1,12 +1,14 @@
 use Rattle.std.specs.Prelude.{Result, Ok, Err}
 use Rattle.std.proofs.Common.{if◌then◌else◌}
 use Rattle.std.specs.Result.{IsErrAnd}
-use mathlib.Core.Path.{◌≡◌, refl, sym, ◌∙◌}
+use mathlib.Core.Path.{◌≡◌, refl, sym, ap, ◌∙◌}
 use mathlib.Core.Bool.{Bool, true, false}
 use lib.Dec.{leb}
 use mathlib.Core.List.{List, [], ◌++◌}
-use Prim.Native.Nat.{ℕ, ◌-◌, ◌*◌, ◌%◌, ◌^◌, ◌≤◌}
+use Prim.Native.Nat.{ℕ, ◌-◌, ◌*◌, ◌/◌, ◌%◌, ◌^◌, ◌≤◌}
+use native.Mathlib.Nat.{one-mul, mul-div_cancel_left}
 use native.Mathlib.Omega.{arith}
+use lib.Pow.{pow_pos}
 use lib.ListN.{length}
 use lib.Seq.{length-take-le}
 use borrow.Author.Tests.{ltb-false, not-false, leb-true, leb-false}
@@ -31,31 +33,28 @@ use Rattle.magnetar_matrix.proofs.Blocks.{product-fits}
 use Rattle.magnetar_r1cs.proofs.Flipped.{Powers, powers-of, masks-in-front}
 use Rattle.magnetar_r1cs.proofs.r1cs.apply_simd_bit_masks.Goals as goal
 
--- what d = 2^(log2 q - v) and n = 2^v are, once the tests let them through
-record Fits (m : Lent) (ws : List ℕ) (q w v d n : ℕ) : Type 0 where
+-- a matrix, logins and a number v that the tests let through
+record Fits (m : Lent) (ws : List ℕ) (q w v : ℕ) : Type 0 where
   batched : Batched m ws [] q w
   bits : bit_valued w (matrix_of m) ≡ true
-  most : v ≤ log₂ q
   powers : Powers q v
-  lows : d ≡ 2 ^ (log₂ q - v)
-  logins : n ≡ 2 ^ v
-  few : d ≤ 4096
+  lows : q / 2 ^ v ≡ 2 ^ (log₂ q - v)
+  logins : 1 * 2 ^ v % 2 ^ 64 ≡ 2 ^ v
+  few : q / 2 ^ v ≤ 4096
 
-fits_of : (m : Lent) (ws : List ℕ) (q w v d n s : ℕ) → 0 ≡ first_refusal 0 (matrix_tests m ws q w) → 0 ≡ first_refusal 0 (mask_tests m q w v)
-    → s ≡ log₂ q → d ≡ 2 ^ (s - v) % 2 ^ 64 → n ≡ 2 ^ v % 2 ^ 64 → Fits m ws q w v d n
-fits_of m ws q w v d n s eb em hs hd hn =
+fits_of : (m : Lent) (ws : List ℕ) (q w v : ℕ) → 0 ≡ first_refusal 0 (matrix_tests m ws q w) → 0 ≡ first_refusal 0 (mask_tests m q w v) → Fits m ws q w v
+fits_of m ws q w v eb em =
     let b = masked m ws q w (sym eb) in
     let k = cleared (mask_tests m q w v) refl em in
     let h = ltb-false _ _ k.1.0 in
     let p = powers-of q v b.logins h (ltb-false _ _ k.1.1.0) in
-    let l : d ≡ 2 ^ (log₂ q - v) = (rw hs at hd) ∙ power-is (log₂ q - v) (omega (arith, p.small)) in
+    let l : q / 2 ^ v ≡ 2 ^ (log₂ q - v) = ap (λ (n : ℕ). n / 2 ^ v) (sym p.all) ∙ mul-div_cancel_left (2 ^ (log₂ q - v)) (pow_pos v) in
     record {
       batched = b;
       bits = not-false _ k.0;
-      most = h;
       powers = p;
       lows = l;
-      logins = hn ∙ power-is v (omega (arith, h, p.small));
+      logins = rw one-mul (power-is v (omega (arith, h, p.small)));
       few = rw l p.lows;
     }
 
@@ -98,17 +97,15 @@ unfolding bit_valued matrix_of
 overflow_mul-end g c =
     let x = c.args in
     let a : Lent = lent_by x.rows x.cols (g.E.Entries.numbers x.es.now) in
-    let f = fits_of a x.packed.now x.q x.w x.v c.power_of_two-d.result c.power_of_two-c.result c.log2-s.result c.in_ok-matrix_refusal.ensures
-    c.in_ok-bits_refusal.ensures c.log2-s.ensures.0 c.power_of_two-d.ensures c.power_of_two-c.ensures in
-    omega (arith, product-fits c.power_of_two-d.result x.rows f.few (omega (arith, f.batched.rows_size.high)))
+    let f = fits_of a x.packed.now x.q x.w x.v c.in_ok-matrix_refusal.ensures c.in_ok-bits_refusal.ensures in
+    omega (arith, product-fits (x.q / 2 ^ x.v) x.rows f.few (omega (arith, f.batched.rows_size.high)))
 
 pub returns-in_err-require : goal.returns-in_err-require
 unfolding masks_refusal bit_valued matrix_of
 returns-in_err-require g c =
     let x = c.args in
     let a : Lent = lent_by x.rows x.cols (g.E.Entries.numbers x.es.now) in
-    let f = fits_of a x.packed.now x.q x.w x.v c.power_of_two-d.result c.power_of_two-c.result c.log2-s.result c.in_ok-matrix_refusal.ensures
-    c.in_ok-bits_refusal.ensures c.log2-s.ensures.0 c.power_of_two-d.ensures c.power_of_two-c.ensures in
+    let f = fits_of a x.packed.now x.q x.w x.v c.in_ok-matrix_refusal.ensures c.in_ok-bits_refusal.ensures in
     let k : Tests = mask_tests a x.q x.w x.v in
     let o : Tests = room_test (mask_count a x.q x.v) x.out.now in
     let h = c.from_residual-in_err-require.ensures.1 in
@@ -121,9 +118,8 @@ unfolding bit_valued matrix_of
 mask_all-requires g c =
     let x = c.args in
     let a : Lent = lent_by x.rows x.cols (g.E.Entries.numbers x.es.now) in
-    let f = fits_of a x.packed.now x.q x.w x.v c.power_of_two-d.result c.power_of_two-c.result c.log2-s.result c.in_ok-matrix_refusal.ensures
-    c.in_ok-bits_refusal.ensures c.log2-s.ensures.0 c.power_of_two-d.ensures c.power_of_two-c.ensures in
-    let room : c.power_of_two-d.result * x.rows ≤ length x.out.now = grind arith in (
+    let f = fits_of a x.packed.now x.q x.w x.v c.in_ok-matrix_refusal.ensures c.in_ok-bits_refusal.ensures in
+    let room : (x.q / 2 ^ x.v) * x.rows ≤ length x.out.now = grind arith in (
       f.batched.half,
       f.batched.logins.high,
       rw f.logins f.powers.logins,
@@ -139,9 +135,8 @@ unfolding masks_refusal bit_valued matrix_of
 returns g c =
     let x = c.args in
     let a : Lent = lent_by x.rows x.cols (g.E.Entries.numbers x.es.now) in
-    let f = fits_of a x.packed.now x.q x.w x.v c.power_of_two-d.result c.power_of_two-c.result c.log2-s.result c.in_ok-matrix_refusal.ensures
-    c.in_ok-bits_refusal.ensures c.log2-s.ensures.0 c.power_of_two-d.ensures c.power_of_two-c.ensures in
-    let room : c.power_of_two-d.result * x.rows ≤ length x.out.now = grind arith in
+    let f = fits_of a x.packed.now x.q x.w x.v c.in_ok-matrix_refusal.ensures c.in_ok-bits_refusal.ensures in
+    let room : (x.q / 2 ^ x.v) * x.rows ≤ length x.out.now = grind arith in
     let t : mask_count a x.q x.v ≤ length x.out.now = rw (← f.lows) room in
     let k : Tests = mask_tests a x.q x.w x.v in
     let o : Tests = room_test (mask_count a x.q x.v) x.out.now in
