@@ -1,6 +1,7 @@
 -- How the row check ends: what the search and the steps leave is the verdict that the relation gives, and what the entry leaves.
 -- Assumes nothing.
-use Rattle.std.specs.Prelude.{◌≡◌, ℕ, ◌+◌, ◌-◌, ◌*◌, ◌/◌, ◌<◌, ◌≤◌, max, Bool, true, false, cond, not, eqb, ltb, leb, Result, Ok, Err, List, [], ◌∷◌, ◌++◌, length, drop, replicate}
+use Rattle.std.specs.Prelude.{◌≡◌, ℕ, ◌+◌, ◌-◌, ◌*◌, ◌/◌, ◌<◌, ◌≤◌, max, Result, Ok, Err}
+use Rattle.std.specs.Prelude.{Bool, true, false, cond, not, eqb, ltb, leb, List, [], ◌∷◌, ◌++◌, length, drop, replicate}
 use Rattle.std.specs.Result.{IsErrAnd}
 use Rattle.magnetar_field.specs.declared.refusal.Refusal.{Refusal}
 use Rattle.magnetar_field.specs.Number.{number, number_of}
@@ -35,7 +36,8 @@ use Rattle.magnetar_check.specs.declared.check.RowCheck.{RowCheck}
 use Rattle.magnetar_check.specs.Check.{Outcome, check_scratch_tests, check_scratch_of, check_refusal, Checked, checked, check_outcome}
 use Rattle.magnetar_check.specs.Check.Outcome.{judged, refused}
 use Rattle.magnetar_check.specs.CheckSteps.{Found, nothing, stray_found, Judged, from, system_done, both_done, both_words, answer_of}
-use Rattle.magnetar_check.proofs.SystemWalk.{length-kept, behind-kept, found-kept, found_none, found_first}
+use Rattle.magnetar_check.proofs.RowWalk.{found-stays}
+use Rattle.magnetar_check.proofs.SystemWalk.{length-kept, behind-kept, found_none, found_first}
 
 -- ---- the first login of a system with a row that does not hold
 module _ (t : System) (w : ℕ) (ws x : List ℕ) (q : ℕ) where
@@ -124,15 +126,15 @@ module _ (R : Relation) (w : ℕ) (ws x : List ℕ) (r : Found) (l : List ℕ) (
   -- where something was found before, that stays
   kept : (r.kind ≡ 0 → ⊥) → end.found ≡ r
   kept some =
-      let e = found-kept 1 w ws x R.bin (from r l) hs room-s some q in
-      found-kept 2 w ws x R.fld mid ht room-t (rw e some) q ∙ e
+      let e = found-stays 1 w ws x R.bin (from r l) q some in
+      sym (ap (λ (p : Judged). p.found) (found-stays 2 w ws x R.fld (from r l) q some ∙ ap (system_done 2 w ws x R.fld q) e))
 
   answer-bin : r ≡ nothing → first-bin < q → Right
   unfolding answer_of systems_verdict
   answer-bin r-none h =
       let some : ◌≡◌ {A = ℕ} 1 0 → ⊥ = λ z. omega (arith, z) in
       let e = walk-found R.bin w ws x q 1 (from r l) hs room-s (rw r-none) some h in
-      let k = found-kept 2 w ws x R.fld mid ht room-t (rw e some) q ∙ e in
+      let k = ap (λ (p : Judged). p.found) (sym (found-stays 2 w ws x R.fld mid q (rw e some))) ∙ e in
       rw (k, login-is R.bin w ws x q, ne_eqb first-bin q (λ z. omega (arith, h, z)), row_is R.bin w ws x q first-bin h)
 
   module _ (r-none : r ≡ nothing) (h : q ≤ first-bin) where

@@ -17,7 +17,8 @@ use Rattle.magnetar_relation.specs.Rules.{system_at}
 use Rattle.magnetar_relation.specs.Steps.{cleared_to, added_to, added_all, behind, login_z}
 use Rattle.magnetar_relation.specs.EntryWalks.{fold_entries}
 use Rattle.magnetar_relation.proofs.RangeLaws.{same_drop}
-use Rattle.magnetar_check.specs.CheckSteps.{Found, share_added, product_behind, twice_of, three_in, row_in, nothing, failing_in, Judged, from, login_done, system_done, both_done, answer_of}
+use Rattle.magnetar_check.specs.CheckSteps.{Found, share_added, product_behind, twice_of, three_in, row_in, nothing, failing_in}
+use Rattle.magnetar_check.specs.CheckSteps.{Judged, from, login_done, system_done, both_done, answer_of}
 use Rattle.magnetar_check.specs.Check.Outcome.{judged}
 
 -- ---- what is behind the first m elements
@@ -29,7 +30,8 @@ unfolding behind
 behind-twice m g h s = go (leb (2 * m) (length s)) refl
   where
     go : (b : Bool) → leb (2 * m) (length s) ≡ b
-        → cond (leb (2 * m) (length (on b m h s))) (take (2 * m) (on b m h s) ++ g (drop (2 * m) (on b m h s))) (on b m h s) ≡ cond b (take (2 * m) s ++ g (h (drop (2 * m) s))) s
+        → cond (leb (2 * m) (length (on b m h s))) (take (2 * m) (on b m h s) ++ g (drop (2 * m) (on b m h s))) (on b m h s)
+        ≡ cond b (take (2 * m) s ++ g (h (drop (2 * m) s))) s
     go true e =
         let l : length (take (2 * m) s) ≡ 2 * m = length-take-le (2 * m) s (leb-true _ _ e) in
         let k : 2 * m ≤ length (take (2 * m) s ++ h (drop (2 * m) s)) = rw length-append (omega (arith, l)) in
@@ -58,7 +60,8 @@ shares-are m n z [] s = none
 shares-are m n z (e ∷ es) s =
     shares-are m n z es (behind m (added_to n e.row (share z e)) s) ∙ behind-twice m (added_all n (share z) es) (added_to n e.row (share z e)) s
 
-pub product_is : (m n : ℕ) (z : List ℕ) (a : Matrix) (s : List ℕ) → product_behind m n z a s ≡ behind m (λ t. added_all n (share z) a.entries (cleared_to n t)) s
+pub product_is : (m n : ℕ) (z : List ℕ) (a : Matrix) (s : List ℕ)
+    → product_behind m n z a s ≡ behind m (λ t. added_all n (share z) a.entries (cleared_to n t)) s
 product_is m n z a s = shares-are m n z a.entries (behind m (cleared_to n) s) ∙ behind-twice m (added_all n (share z) a.entries) (cleared_to n) s
 
 -- ---- the first row that does not hold
@@ -79,7 +82,8 @@ unfolding failing_in
 failing-none r k u n i s e l = rw (← e, le-ltb i n l)
 
 -- ---- a login's three products: the calls in a row, from places that were cut where the entries end
-pub three-cut : (z : List ℕ) (t : SystemShape) (a : ℕ) (es : List Entry) (b c : ℕ) → b ≡ min (a + t.a.entries) (length es) → c ≡ min (b + t.b.entries) (length es)
+pub three-cut : (z : List ℕ) (t : SystemShape) (a : ℕ) (es : List Entry) (b c : ℕ)
+    → b ≡ min (a + t.a.entries) (length es) → c ≡ min (b + t.b.entries) (length es)
     → (ea eb ec : List Entry) → ea ≡ take t.a.entries (drop a es) → eb ≡ take t.b.entries (drop b es) → ec ≡ take t.c.entries (drop c es)
     → (s s₁ s₂ s₃ : List ℕ) → let n = t.a.rows in s₁ ≡ fold_entries (share_added 0 n z) ea (behind 0 (cleared_to n) s)
     → s₂ ≡ fold_entries (share_added n n z) eb (behind n (cleared_to n) s₁)
@@ -107,7 +111,8 @@ module _ (k w : ℕ) (ws x : List ℕ) (t : System) where
   unfolding system_done
   system-start p = refl
 
-  pub system-more : (u : ℕ) (p v v₁ : Judged) → v ≡ system_done k w ws x t u p → v₁ ≡ login_done k (login_z w ws x u) t u v → v₁ ≡ system_done k w ws x t (u + 1) p
+  pub system-more : (u : ℕ) (p v v₁ : Judged) → v ≡ system_done k w ws x t u p
+      → v₁ ≡ login_done k (login_z w ws x u) t u v → v₁ ≡ system_done k w ws x t (u + 1) p
   unfolding system_done
   system-more u p v v₁ h e = rw add-one (e ∙ ap (login_done k (login_z w ws x u) t u) h)
 
@@ -164,7 +169,8 @@ module _ (R : Relation) (w : ℕ) (ws x s : List ℕ) where
       at-end (stray u y) f f s refl (two ∙ ap (system_done 2 w ws x R.fld R.q) one)
 
   module _ (s₁ : List ℕ) where
-    pub judge-bin : (u i : ℕ) → from (record { kind = 1; login = u; place = i }) s₁ ≡ system_done 1 w ws x R.bin R.q (from nothing s) → Says (bin u i) nothing s₁
+    pub judge-bin : (u i : ℕ) → from (record { kind = 1; login = u; place = i }) s₁ ≡ system_done 1 w ws x R.bin R.q (from nothing s)
+        → Says (bin u i) nothing s₁
     unfolding answer_of
     judge-bin u i e =
         let f : Found = record { kind = 1; login = u; place = i } in

@@ -48,7 +48,8 @@ module _ (a b c : ℕ → ℕ) (n : ℕ) where
       let d : 2 * n + i ≡ n + (n + i) = omega arith in
       rw d ((rw l at e) ∙ ((rw k at f) ∙ tabulate-get c n i 0 h))
 
-  holds-is : first_not (holds_at (elements (words (tabulate a n) ++ (words (tabulate b n) ++ words (tabulate c n)))) n) n ≡ first_not (λ i. eqb (a i ⊗ b i) (c i)) n
+  holds-is : first_not (holds_at (elements (words (tabulate a n) ++ (words (tabulate b n) ++ words (tabulate c n)))) n) n
+      ≡ first_not (λ i. eqb (a i ⊗ b i) (c i)) n
   unfolding holds_at
   holds-is =
       let s = words (tabulate a n) ++ (words (tabulate b n) ++ words (tabulate c n)) in
@@ -188,13 +189,6 @@ module _ (k w : ℕ) (ws x : List ℕ) (t : System) (p : Judged) (hn : t.a.rows 
   unfolding system_done
   behind-kept zero = refl
   behind-kept (suc u) = next-behind k (zAt u) t u (after u) hn (room_at u) ∙ behind-kept u
-
-  pub found-kept : (p.found.kind ≡ 0 → ⊥) → (u : ℕ) → (after u).found ≡ p.found
-  unfolding system_done
-  found-kept h zero = refl
-  found-kept h (suc u) =
-      let e = found-kept h u in
-      ap (λ (v : Judged). v.found) (done-some k (zAt u) t u (after u) (rw e h)) ∙ e
 
   module _ (z : p.found.kind ≡ 0) where
     pub found_none : (u : ℕ) → Below test u → (after u).found ≡ p.found

@@ -99,7 +99,9 @@ fn clear_behind(s: &mut [u64], m: usize, n: usize)
 
 // The product of a matrix's entries with the login's z, in the n elements behind the first m.
 fn product<E: Entries>(s: &mut [u64], m: usize, n: usize, of: Login<'_>, es: &E)
-    ensures { s.new ≡ fold_entries (share_added m n (z_of of.entry.w of.entry.bits.now (elements of.entry.x.now))) (entries_by (E.numbers es.now)) (behind m (cleared_to n) s.old) }
+    ensures { s.new
+        ≡ fold_entries (share_added m n (z_of of.entry.w of.entry.bits.now (elements of.entry.x.now))) (entries_by (E.numbers es.now))
+        (behind m (cleared_to n) s.old) }
 {
     clear_behind(s, m, n);
     for i in 0..es.len() {
@@ -140,7 +142,8 @@ fn first_failing<E: Entries>(
     a: usize,
     es: &E,
 ) -> Option<Failing>
-    ensures { (k : ℕ) → 0 < k → from (found_in k result) s.new ≡ system_done k of.entry.w of.entry.packed.now of.entry.x.now (system_at t a (entries_by (E.numbers es.now))) q (from nothing s.old) }
+    ensures { (k : ℕ) → 0 < k → from (found_in k result) s.new
+        ≡ system_done k of.entry.w of.entry.packed.now of.entry.x.now (system_at t a (entries_by (E.numbers es.now))) q (from nothing s.old) }
 {
     for login in 0..q {
         products(s, of.login(login), t, a, es);
@@ -160,7 +163,9 @@ fn judge<E: Entries>(
     sh: Shapes,
     es: &E,
 ) -> RowCheck
-    ensures { let R = relation_of (rules_by 0 q [] sh (E.numbers es.now)) in let d = both_done R of.entry.w of.entry.packed.now of.entry.x.now (stray_found (stray_answer (Ok stray))) s.old in (judged (verdict result) ≡ answer_of 0 d.found) × (s.new ≡ d.left) }
+    ensures { let R = relation_of (rules_by 0 q [] sh (E.numbers es.now)) in
+        let d = both_done R of.entry.w of.entry.packed.now of.entry.x.now (stray_found (stray_answer (Ok stray))) s.old in
+        (judged (verdict result) ≡ answer_of 0 d.found) × (s.new ≡ d.left) }
 {
     if let Some(bit) = stray {
         return RowCheck::Stray(bit.login, bit.column);
