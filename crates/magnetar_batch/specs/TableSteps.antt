@@ -1,4 +1,4 @@
--- How the combined table is made, call by call: what the loops over number slices and the walks over records leave alike. Contracts of
+-- How the combined table is made, call by call: what the loops over the entries leave, in whichever form these are lent. Contracts of
 -- private functions, and of those that the run calls, cite these definitions.
 -- Source: the Rust's `build_m_combo`, entry by entry.
 -- Assumes nothing.

@@ -1,5 +1,5 @@
--- How the combined table's value at a column point is made, call by call: what the loops over number slices and the walks over records leave
--- alike. Only the contracts of private functions cite these definitions.
+-- How the combined table's value at a column point is made, call by call: what the loops over the entries leave, in whichever form these are
+-- lent. Only the contracts of private functions cite these definitions.
 -- Assumes nothing.
 use Rattle.std.specs.Prelude.{ℕ, ◌+◌, ◌*◌, min, max, Bool, cond, ◌&&◌, List, length, take, nat_le, slice_index_or}
 use Rattle.magnetar_field.specs.Gf128.{◌⊕◌, ◌⊗◌}
