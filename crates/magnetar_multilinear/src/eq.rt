@@ -13,6 +13,7 @@ use magnetar_field::refusal::{Refusal, require};
 use magnetar_field::{gf128, words};
 
 // The factor of one variable.
+#[tactic(auto, unfolding(crate::specs::EqTable::eq_factor))]
 pub fn eq_char2(x: Gf128, b: bool) -> Gf128
     ensures { value result ≡ eq_factor (value x) b }
 {

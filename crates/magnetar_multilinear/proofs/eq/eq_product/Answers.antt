@@ -1,4 +1,4 @@
-use mathlib.Core.Path.{◌≡◌, sym}
+use mathlib.Core.Path.{sym}
 use native.Mathlib.Omega.{arith}
 use lib.ListN.{length}
 use Rattle.magnetar_field.specs.Gf128.{value}
@@ -14,11 +14,6 @@ pub loop-j-preserved : goal.loop-j-preserved
 loop-j-preserved c =
     let l = c.loop-j in
     let x = c in
-    let g = eq_at_bits-more (elements x.args.point.now) x.args.bits.now l.j (value l.acc) (omega arith) (rw elements-length (omega arith)) (omega arith) l.invariant in
+    let g = eq_at_bits-more (elements x.args.point.now) x.args.bits.now l.j (value l.acc) (omega arith)
+    (rw elements-length (omega arith)) (omega arith) l.invariant in
     rw (c.mul-acc.ensures, c.eq_char2.ensures, c.get.ensures) g
-
-pub returns : goal.returns
-returns c =
-    let l = c.loop-j in
-    let e : l.j ≡ 0 = omega arith in
-    rw e at l.invariant

@@ -6,4 +6,7 @@ use Rattle.magnetar_multilinear.proofs.Filling.{Filled}
 use Rattle.magnetar_multilinear.proofs.eq.fill.Given as goal
 
 abbrev pub invariant-loop-j : goal.invariant-loop-j
-invariant-loop-j l = (length l.out ≡ 2 * 2 ^ (length l.point / 2)) × Filled (get_or (elements l.initial.out) 0 0) (length l.point / 2) (elements l.point) (elements l.out) l.m l.j
+invariant-loop-j l = record {
+  room : length l.out ≡ 2 * 2 ^ (length l.point / 2);
+  filled : Filled (get_or (elements l.initial.out) 0 0) (length l.point / 2) (elements l.point) (elements l.out) l.m l.j;
+}

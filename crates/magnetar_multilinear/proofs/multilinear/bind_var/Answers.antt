@@ -35,5 +35,5 @@ returns-clause-bound c =
     let all : take (2 * (length t / 4)) (elements t) ≡ elements t = take_all (2 * (length t / 4)) (elements t) (rw elements-length (omega arith)) in
     let j =
     rejoin t c.bind.new.t (bind_var x.var (value x.r) (take (2 * (length t / 4)) (elements t))) (length t / 4) (omega arith) c.bind.auto.t
-    (λ i. omega (arith, c.slice_known-1.given i)) (λ i. omega (arith, c.slice_known-2-1.given i)) c.bind.ensures in
+    (λ i. search rules) (λ i. omega (arith, c.type_inv.table i)) c.bind.ensures in
     rw e (rw (all, h) at j)

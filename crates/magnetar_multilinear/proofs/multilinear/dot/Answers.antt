@@ -1,4 +1,4 @@
-use mathlib.Core.Path.{◌≡◌, sym}
+use mathlib.Core.Path.{sym}
 use native.Mathlib.Omega.{arith}
 use Rattle.magnetar_field.specs.Gf128.{value}
 use Rattle.magnetar_field.specs.Words.{elements}
@@ -15,11 +15,6 @@ pub loop-j-preserved : goal.loop-j-preserved
 loop-j-preserved c =
     let l = c.loop-j in
     let x = c.args in
-    let g = dot-more (elements x.xs.now) (elements x.ys.now) l.j (value l.acc) (omega arith) (rw elements-length (omega arith)) (rw elements-length (omega arith)) l.invariant in
+    let g = dot-more (elements x.xs.now) (elements x.ys.now) l.j (value l.acc) (omega arith)
+    (rw elements-length (omega arith)) (rw elements-length (omega arith)) l.invariant in
     rw (c.add-acc.ensures, c.mul.ensures, c.get.ensures, c.get-in-loop-j.ensures) g
-
-pub returns : goal.returns
-returns c =
-    let l = c.loop-j in
-    let e : l.j ≡ 0 = omega arith in
-    rw e at l.invariant

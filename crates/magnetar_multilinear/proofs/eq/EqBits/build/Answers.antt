@@ -17,5 +17,5 @@ returns-clause-table c =
     let room : need ≤ length x.out.now = grind (arith) in
     let e = eq-none x.point.now x.out.now (grind (arith)) (grind (arith)) (omega arith) in
     let size : length w ≡ need = c.fill.auto.out ∙ length-take-le need x.out.now (omega arith) in
-    let front : words (elements w) ≡ w = words-elements w (drop need x.out.now) (omega arith) (λ i. omega (arith, c.slice_known-2-1.given i)) in
+    let front : words (elements w) ≡ w = words-elements w (drop need x.out.now) (omega arith) (λ i. omega (arith, c.type_inv.out i)) in
     rw e (ap₂ (λ (a b : List ℕ). a ++ b) (sym front ∙ ap words c.fill.ensures) (ap (λ (k : ℕ). drop k x.out.now) c.table_words-need.ensures))
