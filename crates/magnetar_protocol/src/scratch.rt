@@ -4,14 +4,13 @@ ghost use Rattle.magnetar_protocol.specs.Scratch.{verifier_scratch, prover_scrat
 
 use crate::refusal;
 use magnetar_field::refusal::Refusal;
-use magnetar_field::sizes;
 
 // The verifier's words.
 fn verifier_words(m: usize, q: usize, rb: usize, rf: usize) -> usize
     requires { (m ≤ 65536) × (q ≤ 4096) × (rb ≤ 65536) × (rf ≤ 65536) }
     ensures { result ≡ verifier_scratch m q rb rf }
 {
-    2 * m + 2 * sizes::larger(rb, rf) + 2 * q
+    2 * m + 2 * rb.max(rf) + 2 * q
 }
 
 // q times the rows of both systems.
@@ -28,7 +27,7 @@ fn prover_words(m: usize, q: usize, rb: usize, rf: usize) -> usize
     requires { (m ≤ 65536) × (q ≤ 4096) × (rb ≤ 65536) × (rf ≤ 65536) }
     ensures { result ≡ prover_scratch m q rb rf }
 {
-    8 * positions(q, rb, rf) + 8 * m + 4 * sizes::larger(rb, rf) + 6 * q
+    8 * positions(q, rb, rf) + 8 * m + 4 * rb.max(rf) + 6 * q
 }
 
 // How many words of scratch the verifier asks for, over q logins with m columns, rb rows of bin and rf rows of fld.

@@ -66,7 +66,8 @@ module _ (s x y z : List ℕ) (a k : ℕ) (lx : length x ≡ a) (ly : length y �
       let h : length (x ++ y) ≡ a + k = rw length-append (omega arith) in
       let r : drop (length s - (a + k)) (drop k (drop a s)) ≡ [] =
       drop_all (length s - (a + k)) (drop k (drop a s)) (rw (length-drop, length-drop) (omega arith)) in
-      rw (two-length, two-is, take_at (x ++ y) (drop k (drop a s)) (a + k) h, drop_at (x ++ y) (drop k (drop a s)) (a + k) h, r, append-nil) (append_assoc x y z)
+      rw (two-length, two-is, take_at (x ++ y) (drop k (drop a s)) (a + k) h, drop_at (x ++ y) (drop k (drop a s)) (a + k) h, r, append-nil)
+      (append_assoc x y z)
 
 -- ---- the claims
 -- of a run with s, b, f and c rounds of each kind and l segments, part by part

@@ -3,12 +3,11 @@
 use mathlib.Core.Path.{◌≡◌, refl, sym, ap, ap₂, subst, ◌∙◌}
 use mathlib.Core.List.{List, [], ◌∷◌}
 use Prim.Native.Nat.{ℕ, suc, ◌+◌, ◌-◌, ◌*◌, ◌/◌, ◌%◌, ◌^◌, ◌≤◌, ◌<◌}
-use native.Mathlib.Nat.{le_trans, lt_of_not-le, pow-suc, mul-div_cancel}
+use native.Mathlib.Nat.{le_trans, mul-div_cancel}
 use native.Mathlib.Numerals.{add-one}
 use native.Mathlib.Omega.{arith}
 use lib.Dec.{eqb, lit<}
 use lib.ListN.{length, get_or, take, drop, drop_of_length-le, length-drop}
-use lib.Pow.{pow_mono, pow_pos}
 use lib.Seq.{drop-cons, take_all}
 use Rattle.magnetar_field.specs.Gf128.{◌⊕◌, ◌⊗◌}
 use Rattle.magnetar_field.specs.Sizes.{log₂}
@@ -19,7 +18,9 @@ use Rattle.magnetar_field.proofs.Xor.{⊕-assoc, ⊕-zero, zero-⊕}
 use Rattle.magnetar_field.proofs.Product.{⊗-lt, ⊗-one, one-⊗, ⊗-assoc}
 use Rattle.magnetar_multilinear.proofs.EqTables.{eq_at-lt, eq_at-cons}
 use Rattle.magnetar_layout.specs.Layout.{LayoutFits, next_multiple, local_vars, suffix}
-use Rattle.magnetar_layout.proofs.Laid.{Laid, laid-start, laid_more, laid-offset, laid-within, offset-within, each-size}
+use Rattle.std.specs.Int.{div_ceil}
+use Rattle.magnetar_layout.proofs.Readings.{log-le}
+use Rattle.magnetar_layout.proofs.Laid.{ceil-is, Laid, laid-start, laid_more, laid-offset, laid-within, offset-within, each-size}
 use Rattle.magnetar_protocol.specs.Checks.{segment_sum}
 
 -- ---- the factors of the first j elements are in acc, and the number halved j times is left
@@ -76,21 +77,12 @@ pub record Step (w c n k lw : ℕ) : Type 0 where
   pub end_within : k * n + n ≤ w
   pub vars : log₂ n ≤ lw
 
-log-le : (n w : ℕ) → n ≤ w → n ≡ 2 ^ log₂ n → w ≡ 2 ^ log₂ w → log₂ n ≤ log₂ w
-log-le n w h en ew = go (log₂ n) (log₂ w) en ew
-  where
-    go : (a b : ℕ) → n ≡ 2 ^ a → w ≡ 2 ^ b → a ≤ b
-    go a b p q = le-of-lt-succ' a b (lt_of_not-le (λ l. omega (arith, pow_mono {i = suc b} {j = a} l, pow-suc 2 b, pow_pos b)))
-      where
-        le-of-lt-succ' : (a b : ℕ) → a < suc b → a ≤ b
-        le-of-lt-succ' a b h = omega arith
-
-multiple-is : (c n : ℕ) → (c + (n - 1)) / n * n ≡ next_multiple c n
+multiple-is : (c n : ℕ) → 0 < n → div_ceil c n * n ≡ next_multiple c n
 unfolding next_multiple
-multiple-is c n = refl
+multiple-is c n h = ap (λ (k : ℕ). k * n) (ceil-is c n h)
 
 pub step_of : (w : ℕ) (ns low vs : List ℕ) (acc c i : ℕ) → LayoutFits w ns → Segments ns low vs acc c i → i < length ns
-    → Step w c (get_or ns i 0) ((c + (get_or ns i 0 - 1)) / get_or ns i 0) (log₂ w)
+    → Step w c (get_or ns i 0) (div_ceil c (get_or ns i 0)) (log₂ w)
 step_of w ns low vs acc c i S g h =
     let z = each-size w ns i S.lengths h in
     record {
@@ -98,17 +90,18 @@ step_of w ns low vs acc c i S g h =
       length_within = z.most;
       walk_within = le_trans (laid-within w ns c i g.laid S.lengths) S.ends;
       small = S.small;
-      end_within = subst (λ (o : ℕ). o + get_or ns i 0 ≤ w) (sym (multiple-is c (get_or ns i 0) ∙ laid-offset ns c i g.laid h)) (offset-within w ns i S h);
-      vars = log-le (get_or ns i 0) w z.most z.power S.power;
+      end_within = subst (λ (o : ℕ). o + get_or ns i 0 ≤ w) (sym (multiple-is c (get_or ns i 0) z.least ∙ laid-offset ns c i g.laid h))
+      (offset-within w ns i S h);
+      vars = log-le (get_or ns i 0) w z.power S.power z.most;
     }
 
-place_is : (ns : List ℕ) (c i k : ℕ) → Laid ns c i → i < length ns → 0 < get_or ns i 0 → k ≡ (c + (get_or ns i 0 - 1)) / get_or ns i 0 → suffix ns i ≡ k
+place_is : (ns : List ℕ) (c i k : ℕ) → Laid ns c i → i < length ns → 0 < get_or ns i 0 → k ≡ div_ceil c (get_or ns i 0) → suffix ns i ≡ k
 place_is ns c i k l h p e =
-    ap (λ (o : ℕ). o / get_or ns i 0) (sym (laid-offset ns c i l h) ∙ sym (multiple-is c (get_or ns i 0)) ∙ ap (λ (j : ℕ). j * get_or ns i 0) (sym e))
+    ap (λ (o : ℕ). o / get_or ns i 0) (sym (laid-offset ns c i l h) ∙ sym (multiple-is c (get_or ns i 0) p) ∙ ap (λ (j : ℕ). j * get_or ns i 0) (sym e))
     ∙ mul-div_cancel k p
 
 pub segments-more : (w : ℕ) (ns low vs : List ℕ) (acc c i k v acc' c' : ℕ) → LayoutFits w ns → Segments ns low vs acc c i → i < length ns
-    → length vs ≡ length ns → k ≡ (c + (get_or ns i 0 - 1)) / get_or ns i 0 → v ≡ get_or vs i 0
+    → length vs ≡ length ns → k ≡ div_ceil c (get_or ns i 0) → v ≡ get_or vs i 0
     → acc' ≡ acc ⊕ eq_at (drop (log₂ (get_or ns i 0)) low) k ⊗ v → c' ≡ k * get_or ns i 0 + get_or ns i 0 → Segments ns low vs acc' c' (i + 1)
 segments-more w ns low vs acc c i k v acc' c' S g h lv ek ev ea ec = record {
   laid = subst (λ (o : ℕ). Laid ns o (i + 1)) (sym walked) (laid_more ns c i g.laid h);
@@ -122,7 +115,8 @@ segments-more w ns low vs acc c i k v acc' c' S g h lv ek ev ea ec = record {
 }
   where
     walked : c' ≡ next_multiple c (get_or ns i 0) + get_or ns i 0
-    walked = ec ∙ ap (λ (j : ℕ). j * get_or ns i 0 + get_or ns i 0) ek ∙ ap (λ (o : ℕ). o + get_or ns i 0) (multiple-is c (get_or ns i 0))
+    walked = ec ∙ ap (λ (j : ℕ). j * get_or ns i 0 + get_or ns i 0) ek
+        ∙ ap (λ (o : ℕ). o + get_or ns i 0) (multiple-is c (get_or ns i 0) (each-size w ns i S.lengths h).least)
 
 pub segments-end : (ns low vs : List ℕ) (acc c i : ℕ) → Segments ns low vs acc c i → length vs ≤ i → acc ≡ segment_sum ns low 0 vs
 segments-end ns low vs acc c i g h =

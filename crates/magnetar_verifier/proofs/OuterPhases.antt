@@ -104,10 +104,12 @@ module _ (r : Relation) (w d : List ℕ) (long : draw_count r ≤ length d) wher
       let j : i < s = omega arith in
       let p : bin_round r w D i ≡ round_holds 0 (shared_bin s w) (shared_draws s b f w d) i =
       ap₂ (λ (x : List (List ℕ)) (y : List ℕ). round_holds 0 x y i) bin-ms bin-rs
-      ∙ round-front 0 (shared_bin s w) (messages (8 * s) 4 b w) (shared_draws s b f w d) (bin_draws s b f w d) i (rw (bin-length s w) j) (rw shared-length (omega arith)) in
+      ∙ round-front 0 (shared_bin s w) (messages (8 * s) 4 b w) (shared_draws s b f w d) (bin_draws s b f w d) i (rw (bin-length s w) j)
+      (rw shared-length (omega arith)) in
       let q : fld_round r w D i ≡ round_holds 0 (shared_fld s w) (shared_draws s b f w d) i =
       ap₂ (λ (x : List (List ℕ)) (y : List ℕ). round_holds 0 x y i) fld-ms fld-rs
-      ∙ round-front 0 (shared_fld s w) (messages (8 * s + 4 * b) 4 f w) (shared_draws s b f w d) (fld_draws s b f w d) i (rw (fld-length s w) j) (rw shared-length (omega arith)) in
+      ∙ round-front 0 (shared_fld s w) (messages (8 * s + 4 * b) 4 f w) (shared_draws s b f w d) (fld_draws s b f w d) i (rw (fld-length s w) j)
+      (rw shared-length (omega arith)) in
       ap₂ (λ (x : Bool) (l : List Check). check 21 x (after_taus r + 2 * suc i) ∷ l) p
       (ap₂ (λ (x : Bool) (l : List Check). check 22 x (after_taus r + 2 * suc i) ∷ l) q (shared-is (suc i) n (omega arith)))
 

@@ -129,7 +129,8 @@ sharing-start events s ms ns rs = record {
 module _ (events s : ℕ) (ms ns : List (List ℕ)) (rs : List ℕ) where
   two-more : (i k : ℕ) (a b : ℕ) → a ≡ running 0 (take i ms) (take i rs) → b ≡ running 0 (take i ns) (take i rs)
       → after nothing (both_checks events ms ns rs i (suc k))
-      ≡ after (next_found (next_found nothing (check 21 (holds (get_or ms i []) a) (events + 2 * suc i))) (check 22 (holds (get_or ns i []) b) (events + 2 * suc i)))
+      ≡ after (next_found (next_found nothing (check 21 (holds (get_or ms i []) a) (events + 2 * suc i)))
+      (check 22 (holds (get_or ns i []) b) (events + 2 * suc i)))
       (both_checks events ms ns rs (suc i) k)
   unfolding both_checks round_holds after
   two-more i k a b e g = rw (e, g)
@@ -148,7 +149,8 @@ module _ (events s : ℕ) (ms ns : List (List ℕ)) (rs : List ℕ) where
         left = omega arith
 
         same : next_found (next_found nothing (check 21 (holds m a) (events + 2 * suc i))) (check 22 (holds n b) (events + 2 * suc i))
-            ≡ next_found (next_found nothing (check 21 (holds (get_or ms i []) a) (events + 2 * suc i))) (check 22 (holds (get_or ns i []) b) (events + 2 * suc i))
+            ≡ next_found (next_found nothing (check 21 (holds (get_or ms i []) a) (events + 2 * suc i)))
+            (check 22 (holds (get_or ns i []) b) (events + 2 * suc i))
         same = rw (em, en)
 
     pub sharing-more : nothing ≡ next_found (next_found nothing (check 21 (holds m a) (events + 2 * suc i))) (check 22 (holds n b) (events + 2 * suc i))

@@ -44,7 +44,7 @@ fn add_segment(acc: Gf128, low: &[u64], n: usize, k: usize, v: Gf128) -> Gf128
 {
     let a = 2 * sizes::log2(n);
     let e = eq_number(&low[a..], k);
-    gf128::add(acc, gf128::mul(e, v))
+    acc + gf128::mul(e, v)
 }
 
 // The segment values, each times eq of the low point's high part and the number of the segment's place. w is the witness columns.
@@ -54,9 +54,9 @@ fn segment_sum(w: usize, lens: &[usize], low: &[u64], values: &[u64]) -> Gf128
     ensures { value result ≡ segment_sum lens.now (elements low.now) 0 (elements values.now) }
 {
     let mut acc = ZERO;
-    let mut c = 0;
+    let mut c: usize = 0;
     for (i, n) in lens.iter().enumerate() {
-        let k = (c + (*n - 1)) / *n;
+        let k = c.div_ceil(*n);
         acc = add_segment(acc, low, *n, k, words::get(values, i));
         c = k * *n + *n;
     }
@@ -69,9 +69,9 @@ fn segment_sum(w: usize, lens: &[usize], low: &[u64], values: &[u64]) -> Gf128
 fn is_identical(top: Gf128, a: Gf128, p: Gf128, v: Gf128) -> bool
     ensures { result ≡ identical (value top) (value a) (value p) (value v) }
 {
-    let x = gf128::mul(gf128::add(ONE, top), a);
+    let x = gf128::mul(ONE + top, a);
     let y = gf128::mul(top, p);
-    gf128::equal(gf128::add(x, y), v)
+    x + y == v
 }
 
 // ---- The checks.

@@ -52,7 +52,8 @@ returns-in_err-require-2 c =
     let a : number_of c.from_residual-in_err-require-2.result ≡ claims_refusal x.m x.q x.rb x.rf x.lens.now x.proof.now x.draws.now x.claims.now =
     late (outline_tests x.m x.q x.rb x.rf x.lens.now) (claims_later x.m x.q x.rb x.rf x.lens.now x.proof.now x.draws.now x.claims.now)
     c.in_ok-outline_refusal.ensures
-    (late (draw_tests R x.draws.now) (room_test (2 * claim_count R) x.claims.now ++ proof_tests R x.proof.now) (grind (arith, passing)) (grind (arith, passing))) in
+    (late (draw_tests R x.draws.now) (room_test (2 * claim_count R) x.claims.now ++ proof_tests R x.proof.now) (grind (arith, passing))
+    (grind (arith, passing))) in
     record { refusal = a; written = unchanged _ c.from_residual-in_err-require-2.result c.from_residual-in_err-require-2.ensures.0 a }
 
 pub proof_words-requires : goal.proof_words-requires
@@ -93,7 +94,8 @@ returns c =
     let fits : need ≤ length x.claims.now = leb-true _ _ (held _ _ _ c.in_ok-require-2.ensures) in
     let exact : length x.proof.now ≡ 2 * proof_elements R = eqb-true _ _ (held _ _ _ c.in_ok-require-3.ensures) ∙ p in
     let size : length front ≡ need = c.write_in.auto.out ∙ length-take-le need x.claims.now fits in
-    let whole : words (elements front) ≡ front = words-elements front (drop need x.claims.now) (omega (arith, size, n)) (λ i. omega (arith, c.type_inv.claims i)) in
+    let whole : words (elements front) ≡ front = words-elements front (drop need x.claims.now) (omega (arith, size, n))
+    (λ i. omega (arith, c.type_inv.claims i)) in
     record {
       refusal = a;
       written = claims-written x.m x.q x.rb x.rf x.lens.now x.proof.now x.draws.now x.claims.now a front need n exact whole

@@ -28,4 +28,5 @@ returns c =
     let e : length x.proof.now ≡ 2 * proof_total (log₂ x.q) (log₂ x.rb) (log₂ x.rf) (log₂ x.m) (length x.lens.now) = rw g.rounds at g.fits.exact in
     good-out g.refusal (c.end_phases.ensures ∙ rw g.rounds
     (end-finds (log₂ x.q) (log₂ x.rb) (log₂ x.rf) (log₂ x.m) x.lens.now w d (value x.v) (value x.p)
-    ∙ ap first_found (sym (end_is (sizes_only x.m x.q x.rb x.rf x.lens.now) w d (value x.v) (value x.p) (omega (arith, e, elements-length x.proof.now)) k.pos))))
+    ∙ ap first_found (sym (end_is (sizes_only x.m x.q x.rb x.rf x.lens.now) w d (value x.v) (value x.p)
+    (omega (arith, e, elements-length x.proof.now)) k.pos))))

@@ -27,4 +27,5 @@ returns c =
     c.mul.ensures ∙ eq-parts x.tau.now (take (length x.rows.now) x.tau.now)
     (take (length x.tau.now - length x.rows.now) (drop (length x.rows.now) x.tau.now)) x.rows.now x.shared.now (value
     c.eq_at-low.result) (value c.eq_at-high.result)
-    (search rules) (search rules) (search rules) refl (take_all (length x.tau.now - length x.rows.now) (drop (length x.rows.now) x.tau.now) (rw length-drop (omega arith))) c.eq_at-low.ensures c.eq_at-high.ensures
+    (search rules) (search rules) (search rules) refl (take_all (length x.tau.now - length x.rows.now) (drop (length x.rows.now) x.tau.now)
+    (rw length-drop (omega arith))) c.eq_at-low.ensures c.eq_at-high.ensures

@@ -2,7 +2,7 @@ use mathlib.Core.Path.{◌≡◌, sym, ap, ◌∙◌}
 use Prim.Native.Nat.{◌+◌, ◌*◌}
 use Rattle.magnetar_field.specs.Gf128.{value}
 use Rattle.magnetar_field.specs.Words.{elements}
-use Rattle.magnetar_protocol.specs.Found.{nothing, after}
+use Rattle.magnetar_protocol.specs.Found.{nothing, found, after}
 use Rattle.magnetar_protocol.proofs.Finding.{handed-found, after_two}
 use Rattle.magnetar_verifier.specs.Steps.{shared_phase, bin_phase, fld_phase, bin_shared, fld_shared, bin_end, fld_end}
 use Rattle.magnetar_verifier.proofs.OuterPhases.{shared-failed, bin-failed, fld-failed, terminals-found}
@@ -80,8 +80,9 @@ returns c =
     ∙ rw (f₁, c.taus-k.ensures)) in
     let b₂ : value c.in_ok-bin.bin ≡ bin_end r.shared r.bin r.fld w d =
     c.in_ok-bin.ensures.claim
-    ∙ phase-claim (8 * r.shared) 4 r.bin w n c.piece-2.ensures.part c.piece-3.ensures.part _ ∙ rw (b₁, c.taus-k.ensures) in
+    ∙ phase-claim (8 * r.shared) 4 r.bin w n c.piece-2.ensures.part c.piece-3.ensures.part (value c.in_ok-both.both.bin) ∙ rw (b₁, c.taus-k.ensures) in
     let f₂ : value c.in_ok-fld.fld ≡ fld_end r.shared r.bin r.fld w d =
     c.in_ok-fld.ensures.claim
-    ∙ phase-claim (8 * r.shared + 4 * r.bin) 4 r.fld w k c.piece-4.ensures.part c.piece-5.ensures.part _ ∙ rw (f₁, c.taus-k.ensures) in
-    terminals-found r.shared r.bin r.fld w d shared bin fld _ (c.terminals.ensures ∙ rw (b₂, f₂) (sym (after_two nothing _ _)))
+    ∙ phase-claim (8 * r.shared + 4 * r.bin) 4 r.fld w k c.piece-4.ensures.part c.piece-5.ensures.part (value c.in_ok-both.both.fld)
+    ∙ rw (f₁, c.taus-k.ensures) in
+    terminals-found r.shared r.bin r.fld w d shared bin fld (found c.terminals.result) (c.terminals.ensures ∙ rw (b₂, f₂) (sym (after_two nothing _ _)))
