@@ -1,9 +1,8 @@
-// The refusals 1, 4, 5, 6 and 7 of a matrix that is lent.
-ghost use Rattle.std.specs.Prelude.{◌≡◌, ◌++◌, ◌*◌, ◌≤◌, length};
+// The refusals 1, 4, 6 and 7 of a matrix that is lent.
+ghost use Rattle.std.specs.Prelude.{◌≡◌, ◌++◌};
 ghost use Rattle.magnetar_field.specs.Number.{number_of};
-ghost use Rattle.magnetar_layout.specs.Tests.{first_refusal, counted, placed, lone_tests, matrix_column_tests};
-ghost use Rattle.magnetar_matrix.specs.Numbers.{Numbers, lent_by};
-ghost use Rattle.magnetar_matrix.specs.Table.{Equal};
+ghost use Rattle.magnetar_layout.specs.Tests.{first_refusal, counted, placed, lone_tests};
+ghost use Rattle.magnetar_matrix.specs.Numbers.{lent_by};
 
 use crate::walk;
 use magnetar_field::refusal::{Refusal, require};

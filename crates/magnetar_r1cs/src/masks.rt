@@ -1,5 +1,5 @@
 // The walk that gathers the outputs of several logins, 0 or 1 each, as the bits of one word for each row.
-ghost use Rattle.std.specs.Prelude.{◌≡◌, ◌+◌, ◌*◌, ◌<◌, ◌≤◌, length};
+ghost use Rattle.std.specs.Prelude.{◌≡◌, ◌*◌, ◌<◌, ◌≤◌, length};
 ghost use Rattle.magnetar_matrix.specs.Sum.{blocks};
 ghost use Rattle.magnetar_matrix.specs.Matrix.{row_total};
 ghost use Rattle.magnetar_matrix.specs.Packed.{login_words};
@@ -72,7 +72,8 @@ pub(crate) fn mask_all<E: Entries>(
     m: usize,
     out: &mut [u64],
 )
-    requires { (w ≤ 32768) × (q ≤ 4096) × (n ≤ 64) × (n * d ≡ q) × (d ≤ 4096) × (m ≤ 65536) × (length packed.now ≡ q * login_words w) × (length out.old ≡ d * m) }
+    requires { (w ≤ 32768) × (q ≤ 4096) × (n ≤ 64) × (n * d ≡ q) × (d ≤ 4096) × (m ≤ 65536)
+        × (length packed.now ≡ q * login_words w) × (length out.old ≡ d * m) }
     ensures { out.new ≡ blocks (flip_block w packed.now (entries_by (E.numbers es.now)) d n m) d }
 {
     for low in 0..d {

@@ -1,5 +1,5 @@
 // Sparse matrices: their products with a vector and with the logins of a batch, and their extensions.
-ghost use Rattle.std.specs.Prelude.{◌≡◌, true, ◌+◌, ◌*◌, ◌/◌, ◌%◌, ◌<◌, ◌≤◌, ◌++◌, leb, length, take, drop, replicate};
+ghost use Rattle.std.specs.Prelude.{◌≡◌, true, ◌+◌, ◌*◌, ◌/◌, ◌%◌, ◌≤◌, ◌++◌, leb, length, take, drop, replicate};
 ghost use Rattle.magnetar_field.specs.Gf128.{value};
 ghost use Rattle.magnetar_field.specs.Number.{number_of};
 ghost use Rattle.magnetar_field.specs.Tabulate.{tabulate};
@@ -64,7 +64,8 @@ pub fn apply<E: Entries>(
 fn table_in<E: Entries>(es: &E, point: &[u64], out: &mut [u64], s: &mut [u64])
     requires out_len { length out.old % 2 ≡ 0 }
     requires point { Point point.now s.old }
-    ensures out_after { out.new ≡ words (tabulate (row_total (share (eq_table (elements point.now))) (entries_by (exchanged (E.numbers es.now)))) (length out.old / 2)) }
+    ensures out_after { out.new ≡ words (tabulate (row_total (share (eq_table (elements point.now))) (entries_by (exchanged (E.numbers es.now))))
+        (length out.old / 2)) }
     ensures s_after { s.new ≡ replicate (length s.old) 0 }
 {
     let _done = EqBits::build(point, ONE, s);
@@ -174,7 +175,8 @@ fn next_public<E: Entries>(
     requires within_value { within ≡ every (λ e. leb e.col w) (entries_by (E.numbers es.now)) }
     requires n_bound { (n ≤ 65536) × (l ≤ 65536) × (2 * n ≤ length out.old) × (4 * n ≤ length out.old → 2 * l ≤ length x.now) }
     requires out_value { take (2 * n) out.old ≡ words (public_rows w (elements (take l x.now)) (entries_by (E.numbers es.now)) n) }
-    ensures { out.new ≡ take (2 * n) out.old ++ laid_behind (2 * n) (words (public_rows w (elements (take l (drop l x.now))) (entries_by (E.numbers es.now)) n)) out.old }
+    ensures { out.new ≡ take (2 * n) out.old
+        ++ laid_behind (2 * n) (words (public_rows w (elements (take l (drop l x.now))) (entries_by (E.numbers es.now)) n)) out.old }
 {
     let m = 2 * n;
     let e = 4 * n;
@@ -204,7 +206,8 @@ fn login_product<E: Entries>(
     requires within_value { within ≡ every (λ e. leb e.col w) (entries_by (E.numbers es.now)) }
     requires n_bound { (n ≤ 65536) × (l ≤ 65536) × (2 * n ≤ length out.old) × (4 * n ≤ length out.old → 2 * l ≤ length x.now) }
     requires out_value { take (2 * n) out.old ≡ words (public_rows w (elements (take l x.now)) (entries_by (E.numbers es.now)) n) }
-    ensures { out.new ≡ words (raised (row_total (bit_share w login.now) (entries_by (E.numbers es.now))) (elements (take (2 * n) out.old))) ++ laid_behind (2 * n) (words (public_rows w (elements (take l (drop l x.now))) (entries_by (E.numbers es.now)) n)) out.old }
+    ensures { out.new ≡ words (raised (row_total (bit_share w login.now) (entries_by (E.numbers es.now))) (elements (take (2 * n) out.old)))
+        ++ laid_behind (2 * n) (words (public_rows w (elements (take l (drop l x.now))) (entries_by (E.numbers es.now)) n)) out.old }
 {
     next_public(es, w, x, l, n, within, out);
     let m = 2 * n;
@@ -333,7 +336,8 @@ pub fn apply_simd_packed<E: Entries>(
     w: usize,
     out: &mut [u64],
 ) -> Result<bool, Refusal>
-    ensures flag { flagged result ≡ flagged_of (packed_refusal (lent_by rows cols (E.numbers es.now)) packed.now x.now q w out.old) (bit_valued w (matrix_of (lent_by rows cols (E.numbers es.now)))) }
+    ensures flag { flagged result ≡ flagged_of (packed_refusal (lent_by rows cols (E.numbers es.now)) packed.now x.now q w out.old)
+        (bit_valued w (matrix_of (lent_by rows cols (E.numbers es.now)))) }
     ensures products { out.new ≡ packed_out (lent_by rows cols (E.numbers es.now)) packed.now x.now q w out.old }
 {
     batch_refusal(rows, cols, es, packed, x, q, w)?;
@@ -402,7 +406,7 @@ fn bits_refusal<E: Entries>(es: &E, q: usize, w: usize, v: usize) -> Result<(), 
 // The products of a batch's logins where all of them are 0 or 1, as masks: bit t of word low * rows + r is that of login
 // t * 2^(s - v) + low at row r, q being 2^s. 1, 2, 4, 5, 6, 7 as for `apply_simd_packed`; 12: a value exceeds 1 or a column
 // exceeds w; 13: v is over s or over 6; 15: too little room.
-#[tactic(auto, using(magnetar_layout::proofs::Passing::passing), unfolding(crate::specs::Entries::masks_refusal, magnetar_layout::specs::Tests::or_refuse))]
+#[tactic(auto, using(magnetar_layout::proofs::Passing::passing), unfolding(magnetar_layout::specs::Tests::or_refuse))]
 pub fn apply_simd_bit_masks<E: Entries>(
     rows: usize,
     cols: usize,
