@@ -10,6 +10,7 @@ use magnetar_matrix::entries::Entry;
 use magnetar_relation::shapes::{Shape, Shapes, SystemShape};
 
 // A number is fed.
+#[tactic(auto, unfolding(crate::specs::Feeding::words_fed))]
 fn feed_number(s: Sponge, n: usize) -> Sponge
     ensures { result ≡ words_fed s (n ∷ []) }
 {
@@ -28,6 +29,7 @@ fn feed_numbers(s: Sponge, ns: &[usize]) -> Sponge
 }
 
 // The shape of a matrix is fed.
+#[tactic(auto, unfolding(crate::specs::Feeding::words_fed))]
 fn feed_shape(s: Sponge, h: Shape) -> Sponge
     ensures { result ≡ words_fed s (shape_numbers h) }
 {
