@@ -5,8 +5,10 @@ use Rattle.magnetar_field.proofs.gf128.mul_bit.Goals as goal
 
 pub returns : goal.returns
 returns c =
-    let x = c.args in
+    let r = c.args.r in
     let m = c.wrapping_neg-mask.result in
-    let e : value x.b % 2 ≡ x.b.lo % 2 = omega arith in
-    rw (e, masked x.r.lo m (x.b.lo % 2) (omega arith) (search rules) (search rules) (omega arith), masked x.r.hi m (x.b.lo % 2) (omega arith) (search rules) (search rules) (omega arith))
-    (sym (digit-mul (x.b.lo % 2) x.r.hi x.r.lo (omega arith)))
+    let bit = c.args.b.lo % 2 in
+    let e : value c.args.b % 2 ≡ bit = omega arith in
+    let low = masked r.lo m bit (omega arith) (search rules) (search rules) (omega arith) in
+    let high = masked r.hi m bit (omega arith) (search rules) (search rules) (omega arith) in
+    rw (e, low, high) (sym (digit-mul bit r.hi r.lo (omega arith)))

@@ -6,17 +6,10 @@ use Rattle.magnetar_field.proofs.gf128.reduce256.Goals as goal
 pub returns : goal.returns
 unfolding ◌⊕◌
 returns c =
-    let k = c in
-    let a3 = c in
-    let a2 = c in
-    let s3 = c in
-    let a1 = c in
-    let s2 = c in
-    let s1 = c in
-    let t = s1.args.t in
-    let w0 : t.w0 < 2 ^ 64 = (search rules) in
-    let w1 : t.w1 < 2 ^ 64 = (search rules) in
-    let w2 : t.w2 < 2 ^ 64 = (search rules) in
-    let w3 : t.w3 < 2 ^ 64 = (search rules) in
-    rw (c.add-4.ensures, c.add-3.ensures, a3.add-folded.ensures, a1.add.ensures, a2.add-2.ensures)
-    (reduced-words t.w0 t.w1 t.w2 t.w3 w0 w1 w2 w3 _ _ _ s1.shl.ensures s2.shl-2.ensures s3.shl-3.ensures _ refl)
+    let t = c.args.t in
+    let w0 : t.w0 < 2 ^ 64 = search rules in
+    let w1 : t.w1 < 2 ^ 64 = search rules in
+    let w2 : t.w2 < 2 ^ 64 = search rules in
+    let w3 : t.w3 < 2 ^ 64 = search rules in
+    rw (c.add-4.ensures, c.add-3.ensures, c.add-folded.ensures, c.add.ensures, c.add-2.ensures)
+    (reduced-words t.w0 t.w1 t.w2 t.w3 w0 w1 w2 w3 _ _ _ c.shl.ensures c.shl-2.ensures c.shl-3.ensures _ refl)
