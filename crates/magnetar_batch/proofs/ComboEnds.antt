@@ -21,6 +21,7 @@ use Rattle.magnetar_field.proofs.Handed.{handed}
 use Rattle.magnetar_layout.proofs.Passing.{out as refused_by, out-front, late}
 use Rattle.magnetar_layout.proofs.Refused.{number-positive}
 use Rattle.magnetar_layout.proofs.SizeLaws.{not-bad, log-most}
+use Rattle.magnetar_matrix.specs.Matrix.{System}
 use Rattle.magnetar_matrix.specs.Batch.{Relation}
 use Rattle.magnetar_relation.specs.Rules.{Rules, relation_of, in_relation}
 use Rattle.magnetar_relation.specs.RuleTests.{rule_tests, rule_tests_by, shape_tests, number_tests, total}
@@ -87,6 +88,45 @@ pub combo-length : (R : Rules) (al p r : List ℕ) → length (combo_words R al 
 unfolding combo_words combined_table
 combo-length R al p r = words-length _ ∙ ap (λ (i : ℕ). 2 * i) (tabulate-length _ R.m)
 
+-- ---- what is known where the shapes are not refused
+same : (a b : ℕ) → not (eqb a b) ≡ false → a ≡ b
+same a b e = eqb-true a b (not-false (eqb a b) e)
+
+-- a system of a size of rows, over m columns
+pub record Sides (m : ℕ) (s : System) : Type 0 where
+  pub size : Sized 1 65536 s.a.rows
+  pub rows_b : s.b.rows ≡ s.a.rows
+  pub rows_c : s.c.rows ≡ s.a.rows
+  pub cols_a : s.a.cols ≡ m
+  pub cols_b : s.b.cols ≡ m
+  pub cols_c : s.c.cols ≡ m
+
+pub sides : (R : Rules) → first_refusal 0 (shape_tests R.m R.q R.shapes) ≡ 0 → Sides R.m (relation_of R).bin × Sides R.m (relation_of R).fld
+sides R e =
+    let c = (first-refusal-clear 0 (shape_tests R.m R.q R.shapes) refl e).1 in
+    let f = c.1.1.1.1 in
+    let j = f.1.1.1.1 in (
+      record {
+        size = not-bad c.0;
+        rows_b = same _ _ c.1.0;
+        rows_c = same _ _ c.1.1.0;
+        cols_a = same _ _ j.0;
+        cols_b = same _ _ j.1.0;
+        cols_c = same _ _ j.1.1.0;
+      },
+      record {
+        size = not-bad f.0;
+        rows_b = same _ _ f.1.0;
+        rows_c = same _ _ f.1.1.0;
+        cols_a = same _ _ j.1.1.1.0;
+        cols_b = same _ _ j.1.1.1.1.0;
+        cols_c = same _ _ j.1.1.1.1.1.0;
+      },
+    )
+
+wide_of : (m : ℕ) (s : System) → Sides m s → Wide m s
+wide_of m s w = record { rows = w.size; a = w.cols_a; b = w.cols_b; c = w.cols_c }
+
 -- ---- what is known where nothing is refused
 module _ (R : Rules) (al p r : List ℕ) (o w : ℕ) where
   abbrev nb : ℕ
@@ -108,9 +148,6 @@ module _ (R : Rules) (al p r : List ℕ) (o w : ℕ) where
     enough : combo_scratch_of R ≤ w
     wide : 2 * R.m ≤ o
 
-  same : (a b : ℕ) → not (eqb a b) ≡ false → a ≡ b
-  same a b e = eqb-true a b (not-false (eqb a b) e)
-
   combo-fits : combo_refusal R al p r o w ≡ 0 → ComboFits
   unfolding combo_refusal rule_tests_by
   combo-fits e =
@@ -118,12 +155,11 @@ module _ (R : Rules) (al p r : List ℕ) (o w : ℕ) where
       let more = number_tests (total R.shapes) R.numbers ++ ((7, not (in_relation (relation_of R))) ∷ []) in
       let late : first_refusal 0 (rule_tests R ++ rest) ≡ 0 = rest-none (column_tests m) (rule_tests R ++ rest) e in
       let rules : first_refusal 0 (shape_tests m R.q R.shapes ++ more) ≡ 0 = front-none (rule_tests R) rest late in
-      let c = (first-refusal-clear 0 (shape_tests m R.q R.shapes) refl (front-none (shape_tests m R.q R.shapes) more rules)).1 in
-      let j = c.1.1.1.1.1.1.1.1 in
+      let w = sides R (front-none (shape_tests m R.q R.shapes) more rules) in
       let q = (first-refusal-clear 0 rest refl (rest-none (rule_tests R) rest late)).1 in
       record {
-        bin = record { rows = not-bad c.0; a = same _ _ j.0; b = same _ _ j.1.0; c = same _ _ j.1.1.0 };
-        fld = record { rows = not-bad c.1.1.1.1.0; a = same _ _ j.1.1.1.0; b = same _ _ j.1.1.1.1.0; c = same _ _ j.1.1.1.1.1.0 };
+        bin = wide_of _ _ w.0;
+        fld = wide_of _ _ w.1;
         alphas = same _ _ q.0;
         first = same _ _ q.1.0;
         second = same _ _ q.1.1.0;

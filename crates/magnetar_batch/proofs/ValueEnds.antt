@@ -1,6 +1,6 @@
 -- How the combined table's value at a column point ends: what the steps leave is the value that the relation gives, and what the entry leaves.
 -- Assumes nothing.
-use Rattle.std.specs.Prelude.{◌≡◌, ℕ, ◌+◌, ◌*◌, ◌/◌, ◌^◌, ◌≤◌, min, true, false, not, eqb, List, [], ◌∷◌, ◌++◌, map, length, take, drop, replicate}
+use Rattle.std.specs.Prelude.{◌≡◌, ℕ, ◌+◌, ◌*◌, ◌/◌, ◌^◌, ◌≤◌, min, true, not, List, [], ◌∷◌, ◌++◌, map, length, take, drop, replicate}
 use Rattle.std.specs.Prelude.{Result, Ok}
 use Rattle.std.specs.Result.{IsErrAnd}
 use Rattle.std.proofs.lemmas.Result.{err_from_is_err_and}
@@ -10,7 +10,7 @@ use native.Mathlib.Omega.{arith}
 use lib.ListN.{length-append, length-take, length-drop, length-replicate}
 use lib.Pow.{pow_mono}
 use lib.Seq.{drop_at, drop-drop, take-append-le, drop-append-le, get_or-take, length-take-le}
-use borrow.Author.Tests.{le-leb, eq-eqb, eqb-true, ne_eqb, ltb-false, not-false}
+use borrow.Author.Tests.{le-leb, eq-eqb, ne_eqb, ltb-false}
 use Rattle.magnetar_field.specs.declared.gf128.Gf128.{Gf128}
 use Rattle.magnetar_field.specs.declared.refusal.Refusal.{Refusal}
 use Rattle.magnetar_field.specs.Gf128.{◌⊕◌, value}
@@ -47,6 +47,7 @@ use Rattle.magnetar_batch.specs.Value.{value_refusal, combo_value, valued, value
 use Rattle.magnetar_batch.specs.ValueSteps.{front_value, front_cleared, row_added, rows_made, matrix_value, matrix_left}
 use Rattle.magnetar_batch.specs.ValueSteps.{weighed, system_value, system_left, larger_rows, factors_behind, six_value, six_left}
 use Rattle.magnetar_batch.proofs.ColumnLaws.{dot-six}
+use Rattle.magnetar_batch.proofs.ComboEnds.{Sides, sides}
 use Rattle.magnetar_batch.proofs.Rooms.{elements-behind}
 use Rattle.magnetar_batch.proofs.TableWalk.{columns-are}
 use Rattle.magnetar_batch.proofs.ValueWalk.{rows-fold}
@@ -161,15 +162,6 @@ six-sum a b c d e f = simp xor
 by_rows : (n : ℕ) (a : Matrix) (p c : List ℕ) → a.rows ≡ n → mle (tabulate (row_total (share (eq_table c)) a.entries) n) p ≡ value_by_rows a p c
 unfolding value_by_rows times times_at
 by_rows n a p c h = ap (λ (i : ℕ). mle (tabulate (row_total (share (eq_table c)) a.entries) i) p) (sym h)
-
--- a system of a size of rows, over m columns
-pub record Sides (m : ℕ) (s : System) : Type 0 where
-  pub size : Sized 1 65536 s.a.rows
-  pub rows_b : s.b.rows ≡ s.a.rows
-  pub rows_c : s.c.rows ≡ s.a.rows
-  pub cols_a : s.a.cols ≡ m
-  pub cols_b : s.b.cols ≡ m
-  pub cols_c : s.c.cols ≡ m
 
 -- a point in front of words has no more elements than the size asks for
 point-few : (n : ℕ) (p : List ℕ) → Sized 1 65536 n → 2 ^ length (elements (point_in n p)) ≤ n
@@ -288,33 +280,14 @@ module _ (R : Rules) (n : ℕ) where
       let more = number_tests (total R.shapes) R.numbers ++ ((7, not true) ∷ []) in
       let late : first_refusal 0 ((first ++ more) ++ last) ≡ 0 = rest-none (column_tests m) ((first ++ more) ++ last) e in
       let k = (first-refusal-clear 0 (column_tests m) refl (front-none (column_tests m) ((first ++ more) ++ last) e)).1 in
-      let c = (first-refusal-clear 0 first refl (front-none first more (front-none (first ++ more) last late))).1 in
-      let f = c.1.1.1.1 in
-      let j = f.1.1.1.1 in
+      let w = sides R (front-none first more (front-none (first ++ more) last late)) in
       let q = (first-refusal-clear 0 last refl (rest-none (first ++ more) last late)).1 in
       record {
         size = not-bad k.0;
-        bin = record {
-          size = not-bad c.0;
-          rows_b = same _ _ c.1.0;
-          rows_c = same _ _ c.1.1.0;
-          cols_a = same _ _ j.0;
-          cols_b = same _ _ j.1.0;
-          cols_c = same _ _ j.1.1.0;
-        };
-        fld = record {
-          size = not-bad f.0;
-          rows_b = same _ _ f.1.0;
-          rows_c = same _ _ f.1.1.0;
-          cols_a = same _ _ j.1.1.1.0;
-          cols_b = same _ _ j.1.1.1.1.0;
-          cols_c = same _ _ j.1.1.1.1.1.0;
-        };
+        bin = w.0;
+        fld = w.1;
         enough = ltb-false _ _ q.0;
       }
-    where
-      same : (a b : ℕ) → not (eqb a b) ≡ false → a ≡ b
-      same a b e = eqb-true a b (not-false (eqb a b) e)
 
 module _ (R : Rules) (al p r c s : List ℕ) where
   abbrev rules : Tests
