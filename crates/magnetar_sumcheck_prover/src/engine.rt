@@ -54,7 +54,7 @@ pub(crate) fn is_table(words: usize, v: usize) -> bool
 pub(crate) fn slope(t: &[u64], lo: usize, hi: usize) -> Gf128
     ensures { value result ≡ get_or (elements t.now) lo 0 ⊕ get_or (elements t.now) hi 0 }
 {
-    gf128::add(words::get(t, lo), words::get(t, hi))
+    words::get(t, lo) + words::get(t, hi)
 }
 
 // ---- One pass over the pairs.
@@ -124,7 +124,7 @@ impl Sums {
     fn middle(self) -> Gf128
         ensures { value result ≡ value self.zero ⊕ value self.one ⊕ value self.top }
     {
-        gf128::add(gf128::add(self.zero, self.one), self.top)
+        self.zero + self.one + self.top
     }
 }
 
@@ -156,14 +156,14 @@ impl Summed for Outer<'_> {
     // Two products.
     fn add_at(&self, acc: Gf128, i: usize, k: usize) -> Gf128 {
         let ab = gf128::mul(words::get(self.a, k), words::get(self.b, k));
-        let q = gf128::add(ab, words::get(self.c, k));
-        gf128::add(acc, gf128::mul(words::get(self.e, i), q))
+        let q = ab + words::get(self.c, k);
+        acc + gf128::mul(words::get(self.e, i), q)
     }
 
     // Two products.
     fn add_top(&self, acc: Gf128, i: usize, lo: usize, hi: usize) -> Gf128 {
         let q = gf128::mul(slope(self.a, lo, hi), slope(self.b, lo, hi));
-        gf128::add(acc, gf128::mul(words::get(self.e, i), q))
+        acc + gf128::mul(words::get(self.e, i), q)
     }
 }
 
@@ -171,7 +171,7 @@ impl Summed for Outer<'_> {
 fn fused(a: Gf128, b: Gf128, c: Gf128, d: Gf128) -> Gf128
     ensures { value result ≡ value a ⊗ value b ⊕ value c ⊗ value d }
 {
-    gf128::add(gf128::mul(a, b), gf128::mul(c, d))
+    gf128::mul(a, b) + gf128::mul(c, d)
 }
 
 // Stores the message k ((1 + t) + X) q at the front of out, where q has the given sums. Seven products.
@@ -181,7 +181,7 @@ fn put_outer(out: &mut [u64], s: Sums, k: Gf128, t: Gf128)
     ensures { out.new ≡ words (times_eq (value k) (value t) (value s.zero) (value s.zero ⊕ value s.one ⊕ value s.top) (value s.top)) ++ drop 8 out.old }
 {
     let q1 = s.middle();
-    let kl = gf128::mul(k, gf128::add(ONE, t));
+    let kl = gf128::mul(k, ONE + t);
     let c0 = gf128::mul(kl, s.zero);
     let c1 = fused(kl, q1, k, s.zero);
     let c2 = fused(kl, s.top, k, q1);
@@ -230,18 +230,12 @@ impl Summed for Inner<'_> {
 
     // One product.
     fn add_at(&self, acc: Gf128, _i: usize, k: usize) -> Gf128 {
-        gf128::add(
-            acc,
-            gf128::mul(words::get(self.t, k), words::get(self.z, k)),
-        )
+        acc + gf128::mul(words::get(self.t, k), words::get(self.z, k))
     }
 
     // One product.
     fn add_top(&self, acc: Gf128, _i: usize, lo: usize, hi: usize) -> Gf128 {
-        gf128::add(
-            acc,
-            gf128::mul(slope(self.t, lo, hi), slope(self.z, lo, hi)),
-        )
+        acc + gf128::mul(slope(self.t, lo, hi), slope(self.z, lo, hi))
     }
 }
 
@@ -256,6 +250,7 @@ pub fn inner_message(out: &mut [u64], t: &[u64], z: &[u64], v: usize) -> Result<
     require(z.len() == t.len(), Refusal::Length)?;
     require(out.len() >= 6, Refusal::Room)?;
     let s = Sums::over(&Inner { t, z }, v, t.len() / 4);
-    put_all(out, &[s.zero, s.middle(), s.top]);
+    let q1 = s.middle();
+    put_all(out, &[s.zero, q1, s.top]);
     Ok(())
 }

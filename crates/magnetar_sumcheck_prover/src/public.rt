@@ -49,7 +49,7 @@ fn drop_pairs(t: &mut [u64], v: usize, n: usize)
 pub fn eq_next(k: Gf128, t: Gf128, r: Gf128) -> Gf128
     ensures { value result ≡ value k ⊗ (1 ⊕ value t ⊕ value r) }
 {
-    gf128::mul(k, gf128::add(gf128::add(ONE, t), r))
+    gf128::mul(k, ONE + t + r)
 }
 
 // eq of tau and the point that the challenges make: the product over j of 1 + tau_j + p_j. The first `high` challenges belong to
@@ -81,10 +81,7 @@ fn place(high: usize, n: usize, j: usize) -> usize
 fn eq_factor(acc: Gf128, tau: &[u64], challenges: &[u64], j: usize, k: usize) -> Gf128
     ensures { value result ≡ (1 ⊕ get_or (elements tau.now) j 0 ⊕ get_or (elements challenges.now) k 0) ⊗ value acc }
 {
-    let f = gf128::add(
-        gf128::add(ONE, words::get(tau, j)),
-        words::get(challenges, k),
-    );
+    let f = ONE + words::get(tau, j) + words::get(challenges, k);
     gf128::mul(f, acc)
 }
 

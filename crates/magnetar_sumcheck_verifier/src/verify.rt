@@ -16,7 +16,7 @@ use magnetar_field::words;
 fn multiply_add(acc: Gf128, t: Gf128, z: Gf128) -> Gf128
     ensures { value result ≡ value acc ⊕ value t ⊗ value z }
 {
-    gf128::add(acc, gf128::mul(t, z))
+    acc + gf128::mul(t, z)
 }
 
 // What a round leaves: whether the message was right, and the running claim.
@@ -32,7 +32,7 @@ fn check_sum(msg: &[u64]) -> Gf128
 {
     let mut acc = gf128::ZERO;
     for i in (1..msg.len() / 2).rev() {
-        acc = gf128::add(words::get(msg, i), acc);
+        acc = words::get(msg, i) + acc;
     }
     acc
 }
@@ -45,10 +45,11 @@ fn is_message(msg: &[u64], n: usize) -> bool
 }
 
 // Whether the message is right for the running claim.
+#[tactic(auto, unfolding(crate::specs::Round::holds))]
 fn sum_holds(msg: &[u64], claim: Gf128) -> bool
     ensures { result ≡ holds (elements msg.now) (value claim) }
 {
-    gf128::equal(check_sum(msg), claim)
+    check_sum(msg) == claim
 }
 
 // The message's value at r: the next running claim. A product for each coefficient.
@@ -90,15 +91,17 @@ pub fn round_external(msg: &[u64], n: usize, claim: Gf128, r: Gf128) -> Result<R
 }
 
 // The terminal identity of the outer sum-check: the running claim is e (a b + c), with eq(tau, r) for e. Two products.
+#[tactic(auto, unfolding(crate::specs::Outer::outer_end))]
 pub fn outer_finish(running: Gf128, e: Gf128, a: Gf128, b: Gf128, c: Gf128) -> bool
     ensures { result ≡ eqb (outer_end (value e) (value a) (value b) (value c)) (value running) }
 {
-    gf128::equal(gf128::mul(e, multiply_add(c, a, b)), running)
+    gf128::mul(e, gf128::mul(a, b) + c) == running
 }
 
 // The terminal identity of the inner sum-check: the running claim is t z. One product.
+#[tactic(auto, unfolding(crate::specs::Inner::inner_end))]
 pub fn inner_finish(running: Gf128, t: Gf128, z: Gf128) -> bool
     ensures { result ≡ eqb (inner_end (value t) (value z)) (value running) }
 {
-    gf128::equal(gf128::mul(t, z), running)
+    gf128::mul(t, z) == running
 }

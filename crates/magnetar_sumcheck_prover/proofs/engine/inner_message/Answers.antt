@@ -14,4 +14,4 @@ unfolding inner_refusal
 returns-clause-message c =
     let x = c.args in
     inner-out x.out.now x.t.now x.z.now _ x.v c.over-s.result (grind arith) c.over-s.ensures
-    (rw (c.put_all.ensures, c.middle.ensures))
+    (grind arith)
