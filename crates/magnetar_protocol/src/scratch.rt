@@ -14,6 +14,7 @@ fn verifier_words(m: usize, q: usize, rb: usize, rf: usize) -> usize
 }
 
 // q times the rows of both systems.
+#[tactic(auto, using(crate::proofs::Guards::rows))]
 fn positions(q: usize, rb: usize, rf: usize) -> usize
     requires { (rb ≤ 65536) × (rf ≤ 65536) × (q ≤ 4096) }
     ensures value { result ≡ q * (rb + rf) }

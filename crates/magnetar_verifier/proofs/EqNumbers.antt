@@ -91,7 +91,7 @@ step_of w ns low vs acc c i S g h =
       walk_within = le_trans (laid-within w ns c i g.laid S.lengths) S.ends;
       small = S.small;
       end_within = subst (λ (o : ℕ). o + get_or ns i 0 ≤ w) (sym (multiple-is c (get_or ns i 0) z.least ∙ laid-offset ns c i g.laid h))
-      (offset-within w ns i S h);
+          (offset-within w ns i S h);
       vars = log-le (get_or ns i 0) w z.power S.power z.most;
     }
 

@@ -98,6 +98,7 @@ fn eq_of(tau: &[u64], rows: &[u64], shared: &[u64]) -> Gf128
 }
 
 // The running claim is eq of tau and the point times (a b + c), with the three elements of the proof from place i on.
+#[tactic(auto, unfolding(crate::specs::Steps::terminal_holds))]
 fn terminal_holds(
     claim: Gf128,
     tau: &[u64],

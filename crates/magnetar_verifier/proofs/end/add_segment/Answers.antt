@@ -1,11 +1,7 @@
 use mathlib.Core.Path.{refl, ◌∙◌}
 use Prim.Native.Nat.{◌*◌}
-use native.Mathlib.Omega.{arith}
 use Rattle.magnetar_verifier.proofs.EqNumbers.{behind}
 use Rattle.magnetar_verifier.proofs.end.add_segment.Goals as goal
-
-pub overflow_mul-a : goal.overflow_mul-a
-overflow_mul-a c = omega (arith, c.log2-a.ensures.0)
 
 pub returns : goal.returns
 returns c =
