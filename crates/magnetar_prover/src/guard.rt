@@ -13,6 +13,7 @@ use magnetar_hash::transcript::Transcript;
 use magnetar_layout::limits::{MOST_BATCH_ROWS, MOST_COLUMNS, MOST_LOGINS, MOST_ROWS};
 use magnetar_layout::{layout, tests};
 use magnetar_protocol::refusal;
+use magnetar_protocol::rounds::Rounds;
 
 // 1, 8, 9 and 10.
 #[tactic(auto, using(crate::proofs::Guarded::sizing), unfolding(magnetar_layout::specs::Tests::or_refuse))]
@@ -143,13 +144,9 @@ pub(crate) fn of_play(
     ensures { number_of result ≡ play_refusal (sizes_only m q rb rf lens.now) proof.now draws.now t }
 {
     refusal::outline_refusal(m, q, rb, rf, lens)?;
-    let c = sizes::log2(m);
-    let l = sizes::log2(q);
-    let b = sizes::log2(rb);
-    let f = sizes::log2(rf);
-    let drawn = drawn_words(l, b, f) + 2 * c;
-    let sent = sent_words(l, b, f) + 2 * (3 * c + 1 + lens.len());
-    of_words(t, draws, drawn, proof, sent)
+    let rounds = Rounds::of(m, q, rb, rf);
+    let sent = rounds.proof_words(lens.len());
+    of_words(t, draws, rounds.draw_words(), proof, sent)
 }
 
 // The refusals of the outer rounds.

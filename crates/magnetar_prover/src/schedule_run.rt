@@ -5,6 +5,7 @@ ghost use Rattle.magnetar_field.specs.Words.{elements, words, overlaid};
 ghost use Rattle.magnetar_hash.specs.Bytes.{ascii};
 ghost use Rattle.magnetar_hash.specs.Transcript.{answer_of, element};
 ghost use Rattle.magnetar_schedule.specs.Schedule.{absorb, draw, rounds, singles, schedule};
+ghost use Rattle.magnetar_protocol.specs.Rounds.{Few};
 ghost use Rattle.magnetar_protocol.specs.Shape.{sizes_only};
 ghost use Rattle.magnetar_schedule.specs.ScheduleRun.{run_from};
 ghost use Rattle.magnetar_prover.specs.Entries.{play_answer, play_draws};
@@ -14,8 +15,8 @@ ghost use Rattle.magnetar_prover.specs.Stages.{Adds, Runs, OuterRuns, InnerRuns}
 use crate::events::{self, Label};
 use crate::guard;
 use magnetar_field::refusal::Refusal;
-use magnetar_field::sizes;
 use magnetar_hash::transcript::{self, Transcript};
+use magnetar_protocol::rounds::Rounds;
 
 // As many events as no schedule has: of q up to 4096, m and rows up to 65536, and 64 segments. `run_events` up to here plays all of them.
 pub const ALL_EVENTS: usize = 65536;
@@ -145,11 +146,14 @@ fn run_singles(s: Stage, label: Label, n: usize, proof: &[u64]) -> Stage
     u
 }
 
-// The draws of the two tau, and the rounds of the outer sum-check: a shared ones, then b and f row rounds.
-fn outer(s: Stage, a: usize, b: usize, f: usize, proof: &[u64], out: &mut [u64]) -> Stage
-    requires { (a < 64) × (b < 64) × (f < 64) }
-    ensures { OuterRuns (elements proof.now) a b f s out.old result out.new }
+// The draws of the two tau, and the rounds of the outer sum-check.
+fn outer(s: Stage, rounds: Rounds, proof: &[u64], out: &mut [u64]) -> Stage
+    requires { Few rounds }
+    ensures { OuterRuns (elements proof.now) rounds.shared rounds.bin rounds.fld s out.old result out.new }
 {
+    let a = rounds.shared;
+    let b = rounds.bin;
+    let f = rounds.fld;
     let c = draw_times(s, b"vs-tau-bin", a + b, out);
     let d = draw_times(c, b"vs-tau-fld", a + f, out);
     let e = run_rounds(d, Label::Numbered(b"vs-out-shared-"), 8, a, proof, out);
@@ -191,15 +195,9 @@ fn events_to(
         place: 0,
         left: to,
     };
-    let a = outer(
-        s,
-        sizes::log2(q),
-        sizes::log2(rb),
-        sizes::log2(rf),
-        proof,
-        draws,
-    );
-    let b = inner(a, sizes::log2(m), lens.len(), proof, draws);
+    let rounds = Rounds::of(m, q, rb, rf);
+    let a = outer(s, rounds, proof, draws);
+    let b = inner(a, rounds.inner, lens.len(), proof, draws);
     b.transcript
 }
 

@@ -1,7 +1,8 @@
 use Rattle.magnetar_layout.proofs.Passing.{out-front, late}
 use Rattle.magnetar_protocol.specs.RunTests.{outline_tests}
+use Rattle.magnetar_protocol.proofs.Guards.{outlined-given}
 use Rattle.magnetar_prover.specs.Entries.{play_refusal}
-use Rattle.magnetar_prover.proofs.PlayGuard.{later, drawn-words, proof-words}
+use Rattle.magnetar_prover.proofs.PlayGuard.{later}
 use Rattle.magnetar_prover.proofs.guard.of_play.Goals as goal
 
 pub returns-in_err-outline_refusal : goal.returns-in_err-outline_refusal
@@ -11,19 +12,13 @@ returns-in_err-outline_refusal c =
     out-front (outline_tests x.m x.q x.rb x.rf x.lens.now) (later x.m x.q x.rb x.rf x.lens.now x.proof.now x.draws.now x.t) _ _
     c.from_residual.ensures.1 c.in_err-outline_refusal.ensures
 
+pub proof_words-sent-requires : goal.proof_words-sent-requires
+proof_words-sent-requires c =
+    let x = c.args in (c.of-rounds.ensures.few, (outlined-given x.m x.q x.rb x.rf x.lens.now c.in_ok-outline_refusal.ensures).few)
+
 pub returns : goal.returns
 unfolding play_refusal
 returns c =
     let x = c.args in
     late (outline_tests x.m x.q x.rb x.rf x.lens.now) (later x.m x.q x.rb x.rf x.lens.now x.proof.now x.draws.now x.t) c.in_ok-outline_refusal.ensures
-    (rw (
-      c.of_words.ensures,
-      c.drawn_words.ensures,
-      c.sent_words.ensures,
-      c.log2-c.ensures.0,
-      c.log2-l.ensures.0,
-      c.log2-b.ensures.0,
-      c.log2-f.ensures.0,
-      drawn-words x.m x.q x.rb x.rf x.lens.now x.proof.now x.draws.now x.t,
-      proof-words x.m x.q x.rb x.rf x.lens.now x.proof.now x.draws.now x.t,
-    ))
+    (rw (c.of_words.ensures, c.draw_words.ensures, c.proof_words-sent.ensures, c.of-rounds.ensures.rounds))

@@ -5,7 +5,6 @@ use Rattle.magnetar_schedule.specs.Stepwise.{Steps}
 use Rattle.magnetar_layout.proofs.FirstRefusal.{done}
 use Rattle.magnetar_prover.proofs.Entered.{entered, laid-over}
 use Rattle.magnetar_prover.proofs.Guarded.{fitting, inner-fits, ready}
-use Rattle.magnetar_prover.specs.Entries.{inner_rounds_refusal}
 use lib.ListN.{length, take}
 use lib.Seq.{length-take-le}
 use mathlib.Core.Path.{◌∙◌, ◌≡◌, ap, ap₂, refl, sym}

@@ -2,15 +2,14 @@ use mathlib.Core.Path.{◌≡◌, refl, sym, ap, ap₂, ◌∙◌}
 use Prim.Native.Nat.{ℕ}
 use native.Mathlib.Omega.{arith}
 use lib.ListN.{length, take}
-use lib.Seq.{length-take-le}
 use Rattle.magnetar_field.specs.Words.{overlaid, words}
 use Rattle.magnetar_hash.specs.declared.transcript.Transcript.{Transcript}
 use Rattle.magnetar_schedule.specs.Stepwise.{Steps}
 use Rattle.magnetar_layout.proofs.FirstRefusal.{done}
 use Rattle.magnetar_prover.proofs.Entered.{laid-over}
-use Rattle.magnetar_prover.proofs.OuterGuard.{fitting, outer-fits, blocks-lent, logins-few, bin_few, fld_few}
+use Rattle.magnetar_prover.proofs.OuterGuard.{fitting, outer-fits, blocks-lent}
 use Rattle.magnetar_prover.proofs.OuterParts.{played-is}
-use Rattle.magnetar_prover.specs.Entries.{outer_rounds_refusal, outer_sent, outer_drawn, block_words}
+use Rattle.magnetar_prover.specs.Entries.{block_words}
 use Rattle.magnetar_prover.proofs.rounds.outer_rounds.Goals as goal
 
 pub run-requires : goal.run-requires

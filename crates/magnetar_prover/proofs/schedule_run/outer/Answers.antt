@@ -7,5 +7,5 @@ pub returns : goal.returns
 unfolding ascii numbered
 returns c =
     let x = c.args in
-    outer-all x.a x.b x.f c.draw_times-c.ensures c.draw_times-d.ensures c.run_rounds-e.ensures
+    outer-all x.rounds.shared x.rounds.bin x.rounds.fld c.draw_times-c.ensures c.draw_times-d.ensures c.run_rounds-e.ensures
     c.run_rounds-g.ensures c.run_rounds.ensures
