@@ -26,8 +26,10 @@ use Rattle.magnetar_schedule.proofs.ProverDraws.{sent-length}
 use Rattle.magnetar_schedule.proofs.RealRuns.{completeness-run}
 use Rattle.magnetar_relation.specs.Rules.{Rules, relation_of}
 use Rattle.magnetar_protocol.specs.RunTests.{counter_tests, proof_tests}
-use Rattle.magnetar_spartan.specs.Refusals.{rules_tests, claim_words, proof_words, verifier_scratch_of, prover_scratch_of, verify_tests, prove_tests, sizes_only_of}
-use Rattle.magnetar_spartan.specs.Outcome.{Proved, batch_of, verify_refusal, verify_verdict, verify_outcome, prove_refusal, prove_draws, prove_outcome, columns_of}
+use Rattle.magnetar_spartan.specs.Refusals.{rules_tests, claim_words, proof_words, verifier_scratch_of, prover_scratch_of, verify_tests, prove_tests}
+use Rattle.magnetar_spartan.specs.Refusals.{sizes_only_of}
+use Rattle.magnetar_spartan.specs.Outcome.{Proved, batch_of, verify_refusal, verify_verdict, verify_outcome, prove_refusal, prove_draws}
+use Rattle.magnetar_spartan.specs.Outcome.{prove_outcome, columns_of}
 use Rattle.magnetar_spartan.specs.Proving.{ValidRun}
 use Rattle.magnetar_spartan.specs.Theorems.{AreWords, AcceptedBy, ProvedCall, Unrefused}
 use Rattle.magnetar_spartan.proofs.SizedRules.{rules-numbered, sized-columns}
@@ -78,7 +80,8 @@ module _ (R : Rules) (ws x : List ℕ) (t : Transcript) (w c s : List ℕ) where
   handed-is : prove_refusal R ws x t w c s ≡ 0 → proof_words R ≡ 2 * length sent → handed ≡ words sent
   unfolding prove_outcome prove_draws sent_proof
   handed-is hp h =
-      rw hp (front (prover_proof (relation_of R) (batch_of R ws) (columns_of R x) (prover_draws (relation_of R) (batch_of R ws) (columns_of R x) t)) (drop (proof_words R) w) (proof_words R) h)
+      rw hp (front (prover_proof (relation_of R) (batch_of R ws) (columns_of R x) (prover_draws (relation_of R) (batch_of R ws) (columns_of R x) t))
+      (drop (proof_words R) w) (proof_words R) h)
 
   accepted-of : (p c' s' : List ℕ) → verify_refusal R x p t c' s' ≡ 0 → elements p ≡ sent
       → verdict (relation_of R) (columns_of R x) sent (verifier_draws (relation_of R) sent t) ≡ 0 → (verify_outcome R x p t c' s').code ≡ 0
@@ -93,10 +96,12 @@ module _ (R : Rules) (ws x : List ℕ) (t : Transcript) (w c s : List ℕ) where
 
   claims-handed : prove_refusal R ws x t w c s ≡ 0
       → claim_words R ≡ 2 * length (prover_claims (relation_of R) (batch_of R ws) (prover_draws (relation_of R) (batch_of R ws) (columns_of R x) t))
-      → take (claim_words R) (prove_outcome R ws x t w c s).claims ≡ words (prover_claims (relation_of R) (batch_of R ws) (prover_draws (relation_of R) (batch_of R ws) (columns_of R x) t))
+      → take (claim_words R) (prove_outcome R ws x t w c s).claims ≡ words
+      (prover_claims (relation_of R) (batch_of R ws) (prover_draws (relation_of R) (batch_of R ws) (columns_of R x) t))
   unfolding prove_outcome prove_draws
   claims-handed hp h =
-      rw hp (front (prover_claims (relation_of R) (batch_of R ws) (prover_draws (relation_of R) (batch_of R ws) (columns_of R x) t)) (drop (claim_words R) c) (claim_words R) h)
+      rw hp (front (prover_claims (relation_of R) (batch_of R ws) (prover_draws (relation_of R) (batch_of R ws) (columns_of R x) t))
+      (drop (claim_words R) c) (claim_words R) h)
 
   -- the verifier's tests 1 to 14 are among the prover's, and its 15 and 16 are these three
   unrefused : (p c' s' : List ℕ) → prove_refusal R ws x t w c s ≡ 0 → claim_words R ≤ length c' → verifier_scratch_of R ≤ length s'
@@ -105,8 +110,10 @@ module _ (R : Rules) (ws x : List ℕ) (t : Transcript) (w c s : List ℕ) where
   unrefused p c' s' hp hc hs hw =
       let n = t.squeeze_ctr in
       let k = (first-refusal-clear 0 (prove_tests R ws x n (length w) (length c) (length s)) (rules-numbered R _ refl) hp).1 in
-      let rest : Tests = counter_tests n ++ (room_test_of (proof_words R) (length w) ++ (room_test_of (claim_words R) (length c) ++ room_test_of (prover_scratch_of R) (length s))) in
-      let others : Tests = counter_tests n ++ (room_test_of (claim_words R) (length c') ++ (room_test_of (verifier_scratch_of R) (length s') ++ proof_tests (sizes_only_of R) p)) in
+      let rest : Tests = counter_tests n ++ (room_test_of (proof_words R) (length w) ++
+      (room_test_of (claim_words R) (length c) ++ room_test_of (prover_scratch_of R) (length s))) in
+      let others : Tests = counter_tests n ++ (room_test_of (claim_words R) (length c') ++
+      (room_test_of (verifier_scratch_of R) (length s') ++ proof_tests (sizes_only_of R) p)) in
       let rules = clear-front (rules_tests R) rest k.1.1.1.1 in
       let counter = (clear-back (rules_tests R) rest k.1.1.1.1).0 in
       first-refusal-none (verify_tests R x p n (length c') (length s')) (
@@ -115,8 +122,13 @@ module _ (R : Rules) (ws x : List ℕ) (t : Transcript) (w c s : List ℕ) where
           k.1.0,
           (
             k.1.1.1.0,
-            clear-join (rules_tests R) others rules
-                (counter, (le-ltb (length c') (claim_words R) hc, (le-ltb (length s') (verifier_scratch_of R) hs, (same-passes (length p) (proof_words R) hw, tt)))),
+            clear-join (rules_tests R) others rules (
+              counter,
+              (
+                le-ltb (length c') (claim_words R) hc,
+                (le-ltb (length s') (verifier_scratch_of R) hs, (same-passes (length p) (proof_words R) hw, tt)),
+              ),
+            ),
           ),
         ),
       )

@@ -115,7 +115,8 @@ module _ (R : Rules) (P : ValidRules R) (d : List ℕ) (many : length d ≡ 2 * 
     q-most : log₂ R.q ≤ 12
     b_most : log₂ (rows_bin R) ≤ 16
     f_most : log₂ (rows_fld R) ≤ 16
-    long : length d ≡ 2 * (log₂ R.q + log₂ (rows_bin R) + (log₂ R.q + log₂ (rows_fld R) + (log₂ R.q + (log₂ (rows_bin R) + (log₂ (rows_fld R) + (6 + log₂ R.m))))))
+    long : length d ≡ 2 * (log₂ R.q + log₂ (rows_bin R) +
+        (log₂ R.q + log₂ (rows_fld R) + (log₂ R.q + (log₂ (rows_bin R) + (log₂ (rows_fld R) + (6 + log₂ R.m))))))
 
   logs : Logs
   logs = record {
@@ -238,7 +239,8 @@ module _ (R : Rules) (P : ValidRules R) (d : List ℕ) (many : length d ≡ 2 * 
           let rest = number_tests (total R.shapes) R.numbers ++ ((7, not (in_relation r)) ∷ []) in
           let tail = col_tests R.m b ++ (col_tests R.m f ++ (most_tests b ++ most_tests f)) in
           let later : Clear (tail ++ (number_tests (total R.shapes) R.numbers ++ ((7, not true) ∷ []))) =
-          clear-join tail (number_tests (total R.shapes) R.numbers ++ ((7, not true) ∷ [])) (clear-front tail rest g.1.1.1.1) (clear-join (number_tests (total R.shapes) R.numbers) ((7, not true) ∷ [])
+          clear-join tail (number_tests (total R.shapes) R.numbers ++ ((7, not true) ∷ [])) (clear-front tail rest g.1.1.1.1)
+          (clear-join (number_tests (total R.shapes) R.numbers) ((7, not true) ∷ [])
           (clear-front (number_tests (total R.shapes) R.numbers) ((7, not (in_relation r)) ∷ []) (clear-back tail rest g.1.1.1.1)) (refl, tt)) in
           let shaped : Clear tests =
           (c.0, (c.1.0, (c.1.1.0, (one b.a.rows P.bin.rows, (g.0, (g.1.0, (g.1.1.0, (one f.a.rows P.fld.rows, later)))))))) in
@@ -246,7 +248,7 @@ module _ (R : Rules) (P : ValidRules R) (d : List ℕ) (many : length d ≡ 2 * 
           first-refusal-none (column_tests R.m ++ (tests ++ room_test_of (combo_scratch_of R) (length s)))
           (size-passes 2 65536 R.m P.columns, clear-join tests (room_test_of (combo_scratch_of R) (length s)) shaped roomy)
 
-      drawn-at : value_at 0 R all s
+      drawn-at : value_at R all s
           ≡ record {
             code = 0;
             value = mle (combined r (draws_of r (elements d))) (draws_of r (elements d)).inner;
@@ -255,10 +257,10 @@ module _ (R : Rules) (P : ValidRules R) (d : List ℕ) (many : length d ≡ 2 * 
       unfolding value_outcome combo_value
       drawn-at = rw (value_none, al-is, pb-is, pf-is, table-combined, inner-drawn)
 
-      pub drawn-value : table_value 0 R all s ≡ mle (combined r (draws_of r (elements d))) (draws_of r (elements d)).inner
+      pub drawn-value : table_value R all s ≡ mle (combined r (draws_of r (elements d))) (draws_of r (elements d)).inner
       drawn-value = ap (λ (o : CombinedAt). o.value) drawn-at
 
-      pub drawn-left : value_left 0 R all s ≡ cleared_to (R.m + max (rows_bin R) (rows_fld R)) s
+      pub drawn-left : value_left R all s ≡ cleared_to (R.m + max (rows_bin R) (rows_fld R)) s
       unfolding cleared_to
       drawn-left =
           let n : 2 * (R.m + max (rows_bin R) (rows_fld R)) ≡ combo_scratch_of R = omega arith in

@@ -18,7 +18,8 @@ use Rattle.magnetar_protocol.specs.Draws.{draw_count}
 use Rattle.magnetar_relation.specs.Rules.{Rules}
 use Rattle.magnetar_relation.specs.RuleTests.{rule_tests}
 use Rattle.magnetar_protocol.specs.RunTests.{counter_tests, proof_tests}
-use Rattle.magnetar_spartan.specs.Refusals.{rows_bin, rows_fld, sizes_only_of, rules_tests, proof_words, claim_words, verifier_scratch_of, prover_scratch_of, verify_tests, prove_tests}
+use Rattle.magnetar_spartan.specs.Refusals.{rows_bin, rows_fld, sizes_only_of, rules_tests, proof_words, claim_words, verifier_scratch_of}
+use Rattle.magnetar_spartan.specs.Refusals.{prover_scratch_of, verify_tests, prove_tests}
 use Rattle.magnetar_spartan.specs.ValidRules.{ValidRules}
 use Rattle.magnetar_spartan.specs.Proving.{ValidRun}
 use Rattle.magnetar_spartan.specs.Outcome.{verified, verify_refusal, verify_outcome}

@@ -8,11 +8,15 @@ use lib.ListN.{length, take, drop, replicate, length-append, length-drop, length
 use lib.Seq.{take_at, take_all, drop-drop, length-take-le}
 use borrow.Author.Tests.{lt-ltb}
 use borrow.Rule.Slice.PartMut.{put_mid}
+use Rattle.std.specs.Prelude.{Result, Ok, Err}
+use Rattle.std.specs.Result.{result_unwrap_or}
+use Rattle.magnetar_field.specs.declared.refusal.Refusal.{Refusal}
+use Rattle.magnetar_hash.specs.Transcript.{answer_of}
+use Rattle.magnetar_protocol.specs.Scratch.{asked}
 use Rattle.magnetar_field.specs.Sizes.{log₂}
 use Rattle.magnetar_field.specs.Words.{elements, words, overlaid}
 use Rattle.magnetar_field.proofs.Elements.{words-length}
 use Rattle.magnetar_hash.specs.declared.transcript.Transcript.{Transcript}
-use Rattle.magnetar_hash.specs.declared.transcript.TranscriptAnswer.{TranscriptAnswer}
 use Rattle.magnetar_layout.specs.Tests.{Tests, column_tests, layout_tests, room_test, Sized}
 use Rattle.magnetar_layout.proofs.FirstRefusal.{Clear}
 use Rattle.magnetar_matrix.specs.Batch.{Relation, folded, public_folded}
@@ -21,6 +25,7 @@ use Rattle.magnetar_batch.proofs.Rooms.{back-part, back-put}
 use Rattle.magnetar_protocol.specs.Shape.{log_cols, proof_elements, claim_count, sizes_only}
 use Rattle.magnetar_protocol.specs.Draws.{draw_count}
 use Rattle.magnetar_protocol.specs.Scratch.{prover_scratch_words}
+use Rattle.magnetar_protocol.specs.Scratch.{ScratchWords}
 use Rattle.magnetar_schedule.specs.Stepwise.{Steps, begin, inner_run, segment_value, low_draws, ended, inner_all}
 use Rattle.magnetar_schedule.proofs.Stepwise.{goes-inner, inner-drawn-length, inner-sent-length}
 use Rattle.magnetar_protocol.proofs.Guards.{prover-within}
@@ -30,7 +35,8 @@ use Rattle.magnetar_protocol.specs.RunTests.{counter_tests, run_tests, outline_t
 use Rattle.magnetar_verifier.specs.Claims.{claims_refusal, claims_out}
 use Rattle.magnetar_relation.specs.Rules.{Rules}
 use Rattle.magnetar_spartan.specs.Refusals.{sizes_only_of, rows_bin, rows_fld, proof_words, prover_scratch_of}
-use Rattle.magnetar_spartan.specs.Proving.{ValidRun, ValidFold, FoldLeft, login_at, sent_before, drawn_before, sent_all, drawn_all, InnerDone, EndLeft, inner_part_steps}
+use Rattle.magnetar_spartan.specs.Proving.{ValidRun, ValidFold, FoldLeft, login_at, sent_before, drawn_before, sent_all, drawn_all, InnerDone}
+use Rattle.magnetar_spartan.specs.Proving.{EndLeft, inner_part_steps}
 use Rattle.magnetar_spartan.proofs.PassedTests.{first-refusal-none, size-passes, same-passes, most-passes, true-passes}
 use Rattle.magnetar_spartan.proofs.SizedRules.{sizes-passes, layout-passes, outline-passes}
 use Rattle.magnetar_spartan.proofs.Ended.{draws-small}
@@ -45,24 +51,33 @@ laid-front v s n e h = rw (take_all (length s) v (omega arith), e)
 -- words laid over those behind the first a of s, up to word n
 laid-behind : (s v : List ℕ) (a n : ℕ) → a + length v ≡ n → n ≤ length s → take a s ++ overlaid v (drop a s) ≡ (take a s ++ v) ++ drop n s
 laid-behind s v a n e h =
-    ap (λ (y : List ℕ). take a s ++ y) (laid-front v (drop a s) (length v) refl (rw length-drop (omega arith)) ∙ ap (λ (y : List ℕ). v ++ y) (drop-drop (length v) a s ∙ ap (λ (i : ℕ). drop i s) e))
+    ap (λ (y : List ℕ). take a s ++ y) (laid-front v (drop a s) (length v) refl (rw length-drop (omega arith))
+    ∙ ap (λ (y : List ℕ). v ++ y) (drop-drop (length v) a s ∙ ap (λ (i : ℕ). drop i s) e))
     ∙ sym (append_assoc (take a s) v (drop n s))
 
 -- room behind the first k of l words
 room-behind : {n k l a : ℕ} → k ≡ a → a + n ≤ l → n ≤ l - k
 room-behind e h = omega arith
 
-none-less : {i j : ℕ} → i ≡ j → i - 0 ≡ j
-none-less e = omega arith
+-- the words that are asked for, 0 where the sizes are refused
+words-asked : (g : Result ℕ Refusal) → result_unwrap_or g 0 ≡ (asked g).words
+words-asked (Ok n) = refl
+words-asked (Err r) = refl
 
 -- ---- the inner rounds and the claims
-pub inner-done : (m : ℕ) (ns w d s : List ℕ) (a k i j : ℕ) (t : Transcript) (A : TranscriptAnswer) (w' d' s' : List ℕ) → i ≡ min a (length w) → j ≡ min k (length d)
+-- the transcript that is handed on: the old one where the call is refused
+pub moved-on : (t : Transcript) (r : Result Transcript Refusal) → result_unwrap_or r t ≡ (answer_of t r).transcript
+moved-on t (Ok u) = refl
+moved-on t (Err e) = refl
+
+pub inner-done : (m : ℕ) (ns w d s : List ℕ) (a k i j : ℕ) (t : Transcript) (r : Result Transcript Refusal) (u : Transcript) (w' d' s' : List ℕ)
+    → u ≡ result_unwrap_or r t → i ≡ min a (length w) → j ≡ min k (length d)
     → let W = take (length w - i) (drop i w) in let D = take (length d - j) (drop j d) in
     let z = inner_rounds_refusal m ns W D s t in let p = inner_run_steps (sizes_only m 1 1 1 ns) s t in
-    A ≡ answer_for z p t → w' ≡ proof_for z p W → d' ≡ draws_for z p D → s' ≡ scratch_for z (6 * m) s
-    → InnerDone m ns w d s (min a (length w)) (min k (length d)) t A.transcript (put_mid i (length w - i) w w') (put_mid j (length d - j) d d') s'
-inner-done m ns w d s a k i j t A w' d' s' ei ej eA ew ed es =
-    rw (← ei, ← ej, back-put w w' i, back-put d d' j, eA, ew, ed, es, back-part w i, back-part d j) (refl, refl, refl, refl)
+    answer_of t r ≡ answer_for z p t → w' ≡ proof_for z p W → d' ≡ draws_for z p D → s' ≡ scratch_for z (6 * m) s
+    → InnerDone m ns w d s (min a (length w)) (min k (length d)) t u (put_mid i (length w - i) w w') (put_mid j (length d - j) d d') s'
+inner-done m ns w d s a k i j t r u w' d' s' eu ei ej eA ew ed es =
+    rw (← ei, ← ej, back-put w w' i, back-put d d' j, eu ∙ moved-on t r, eA, ew, ed, es, back-part w i, back-part d j) (refl, refl, refl, refl)
 
 module _ (r : Relation) (c f h : List ℕ) (t : Transcript) where
   pub inner-drawn-many : length (inner_all r c f h (begin t)).run_state.draws ≡ log_cols r
@@ -113,8 +128,10 @@ module _ (R : Rules) (ws xs : ℕ) (w d c s : List ℕ) (t : Transcript)
   unfolding claims_refusal
   claims-none W D hw hd =
       let tests : Tests = draw_tests o D ++ (room_test (2 * claim_count o) c ++ proof_tests o W) in
-      first-refusal-none (outline_tests m R.q (rows_bin R) (rows_fld R) ns ++ tests) (outline-passes R ok.ready tests
-      (same-passes (length D) (2 * draw_count o) hd, (most-passes (length c) (2 * claim_count o) ok.claims, (same-passes (length W) (2 * proof_elements o) hw, tt))))
+      first-refusal-none (outline_tests m R.q (rows_bin R) (rows_fld R) ns ++ tests) (outline-passes R ok.ready tests (
+        same-passes (length D) (2 * draw_count o) hd,
+        (most-passes (length c) (2 * claim_count o) ok.claims, (same-passes (length W) (2 * proof_elements o) hw, tt)),
+      ))
 
   said-room : sent_before R + 2 * (3 * log₂ m + 1 + length ns) ≤ length w
   said-room = omega (arith, ok.proof)
@@ -132,14 +149,15 @@ module _ (R : Rules) (ws xs : ℕ) (w d c s : List ℕ) (t : Transcript)
     k-is : min k (length d) ≡ drawn_before R
     k-is = omega (arith, ek, drawn-room)
 
-    i-is : i - 0 ≡ proof_words R
-    i-is = none-less (omega (arith, ei, ok.proof, ok.ready.segments))
+    i-is : i ≡ proof_words R
+    i-is = omega (arith, ei, ok.proof, ok.ready.segments)
 
-    n-is : n - 0 ≡ 2 * draw_count o
-    n-is = none-less (omega (arith, en, draws-small R ok.ready))
+    n-is : n ≡ 2 * draw_count o
+    n-is = omega (arith, en, draws-small R ok.ready)
 
     unrefused : inner_rounds_refusal m ns (drop (min a (length w)) w) (drop (min k (length d)) d) s t ≡ 0
-    unrefused = inner-none (drop (min a (length w)) w) (drop (min k (length d)) d) (rw length-drop (room-behind k-is drawn-room)) (rw length-drop (room-behind a-is said-room))
+    unrefused = inner-none (drop (min a (length w)) w) (drop (min k (length d)) d) (rw length-drop (room-behind k-is drawn-room))
+        (rw length-drop (room-behind a-is said-room))
 
     said-long : length (sent_all R w P) ≡ proof_words R
     said-long =
@@ -160,14 +178,15 @@ module _ (R : Rules) (ws xs : ℕ) (w d c s : List ℕ) (t : Transcript)
       d-is : d' ≡ drawn_all R d P ++ drop (2 * draw_count o) d
       d-is =
           done.2 ∙ rw (unrefused, k-is)
-          (laid-behind d (words P.run_state.draws) (drawn_before R) (2 * draw_count o) (rw (words-length, drawn-many) (omega arith)) (omega (arith, drawn-room)))
+          (laid-behind d (words P.run_state.draws) (drawn_before R) (2 * draw_count o) (rw (words-length, drawn-many) (omega arith))
+          (omega (arith, drawn-room)))
 
-      pub end-left : (c' : List ℕ) → c' ≡ claims_out m R.q (rows_bin R) (rows_fld R) ns (take (i - 0) (drop 0 w')) (take (n - 0) (drop 0 d')) c
+      pub end-left : (c' : List ℕ) → c' ≡ claims_out m R.q (rows_bin R) (rows_fld R) ns (take i w') (take n d') c
           → EndLeft R w d c s (6 * m) P u w' c' s'
       unfolding claims_out
       end-left c' ec =
-          let sw : take (i - 0) (drop 0 w') ≡ sent_all R w P = rw (i-is, w-is) (take_at (sent_all R w P) (drop (proof_words R) w) (proof_words R) said-long) in
-          let sd : take (n - 0) (drop 0 d') ≡ drawn_all R d P = rw (n-is, d-is) (take_at (drawn_all R d P) (drop (2 * draw_count o) d) (2 * draw_count o) drawn-long) in
+          let sw : take i w' ≡ sent_all R w P = rw (i-is, w-is) (take_at (sent_all R w P) (drop (proof_words R) w) (proof_words R) said-long) in
+          let sd : take n d' ≡ drawn_all R d P = rw (n-is, d-is) (take_at (drawn_all R d P) (drop (2 * draw_count o) d) (2 * draw_count o) drawn-long) in
           (done.0 ∙ rw unrefused, w-is, ec ∙ rw (sw, sd, claims-none (sent_all R w P) (drawn_all R d P) said-long drawn-long), done.3 ∙ rw unrefused)
 
 -- ---- the whole second part
@@ -222,7 +241,8 @@ module _ (R : Rules) (ws x w d c s : List ℕ) (t : Transcript)
 
     steps-are : inner_run_steps (sizes_only R.m 1 1 1 R.lengths) s₁ t ≡ inner_part_steps R ws x d s t
     unfolding inner_run_steps
-    steps-are = rw (front-is, columns-are, half_is) (outlined (elements (take (2 * R.m) s)) columns (public_folded R.q (R.m / 2) (public_of R.q (R.m / 2) x) point))
+    steps-are = rw (front-is, columns-are, half_is)
+        (outlined (elements (take (2 * R.m) s)) columns (public_folded R.q (R.m / 2) (public_of R.q (R.m / 2) x) point))
 
     -- the words behind the prover's scratch
     abbrev n : ℕ
@@ -238,7 +258,8 @@ module _ (R : Rules) (ws x w d c s : List ℕ) (t : Transcript)
 
     module _ (u : Transcript) (w' c' s₂ : List ℕ)
         (ends : EndLeft R w d c s₁ (6 * R.m) (inner_run_steps (sizes_only R.m 1 1 1 R.lengths) s₁ t) u w' c' s₂)
-        (N g : ℕ) (eN : N ≡ min g (length s₂)) (eg : g ≡ (prover_scratch_words R.m R.q (rows_bin R) (rows_fld R)).words) where
+        (N : ℕ) (g : Result ℕ Refusal) (eN : N ≡ min (result_unwrap_or g 0) (length s₂))
+        (eg : asked g ≡ prover_scratch_words R.m R.q (rows_bin R) (rows_fld R)) where
       s₂-long : length s₂ ≡ length s
       s₂-long =
           ap length ends.3 ∙ (length-append (replicate (6 * R.m) 0) (drop (6 * R.m) s₁)
@@ -248,17 +269,17 @@ module _ (R : Rules) (ws x w d c s : List ℕ) (t : Transcript)
       N-is =
           let r = prover-within R.m R.q (rows_bin R) (rows_fld R)
           (first-refusal-none (run_tests R.m R.q (rows_bin R) (rows_fld R)) (sizes-passes R ok.ready [] tt)) in
-          eN ∙ least (eg ∙ r) (omega (arith, s₂-long, ok.scratch))
+          eN ∙ least (words-asked g ∙ (ap (λ (a : ScratchWords). a.words) eg ∙ r)) (omega (arith, s₂-long, ok.scratch))
         where
           least : {a b l : ℕ} → a ≡ b → b ≤ l → min a l ≡ b
           least e h = omega arith
 
-      pub later-ends : (z : List ℕ) → z ≡ replicate (length (take (N - 0) (drop 0 s₂))) 0
-          → EndLeft R w d c s n (inner_part_steps R ws x d s t) u w' c' (put_mid 0 (N - 0) s₂ z)
+      pub later-ends : (z : List ℕ) → z ≡ replicate (length (take N s₂)) 0
+          → EndLeft R w d c s n (inner_part_steps R ws x d s t) u w' c' (z ++ drop N s₂)
       later-ends z ez =
-          let e : N - 0 ≡ n = none-less N-is in
+          let e : N ≡ n = N-is in
           let l : length (take n s₂) ≡ n = length-take-le n s₂ (omega (arith, s₂-long, ok.scratch)) in
           let b : drop n s₂ ≡ drop n s =
           ap (drop n) ends.3 ∙ (behind-front (6 * R.m) n (replicate (6 * R.m) 0) s₁ (length-replicate (6 * R.m) 0) (omega arith) ∙ kept) in
-          let r : put_mid 0 (N - 0) s₂ z ≡ replicate n 0 ++ drop n s = rw (ez, e, l, b) in
-          subst (λ (p : Steps). EndLeft R w d c s n p u w' c' (put_mid 0 (N - 0) s₂ z)) steps-are (ends.0, ends.1, ends.2, r)
+          let r : z ++ drop N s₂ ≡ replicate n 0 ++ drop n s = rw (ez, e, l, b) in
+          subst (λ (p : Steps). EndLeft R w d c s n p u w' c' (z ++ drop N s₂)) steps-are (ends.0, ends.1, ends.2, r)

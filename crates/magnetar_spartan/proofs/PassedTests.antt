@@ -6,7 +6,11 @@ use mathlib.Core.List.{[], ◌∷◌, ◌++◌}
 use Prim.Native.Nat.{ℕ, ◌^◌, ◌≤◌}
 use lib.Dec.{eqb, ltb}
 use borrow.Author.Tests.{le-leb, le-ltb, eq-eqb}
+use native.Mathlib.Omega.{arith}
+use Rattle.magnetar_field.specs.declared.refusal.Refusal.{Refusal}
+use Rattle.magnetar_field.specs.Number.{number}
 use Rattle.magnetar_field.specs.Sizes.{log₂}
+use Rattle.magnetar_layout.proofs.Refused.{number-positive}
 use Rattle.magnetar_layout.specs.Tests.{Tests, or_refuse, first_refusal, is_size, Sized}
 use Rattle.magnetar_layout.proofs.FirstRefusal.{Clear, numbered}
 use Rattle.magnetar_layout.proofs.EveryLaws.{both}
@@ -47,3 +51,7 @@ most-passes n a h = le-ltb n a h
 
 pub true-passes : (b : Bool) → b ≡ true → not b ≡ false
 true-passes b e = rw e
+
+-- a refusal has a number
+pub some : (r : Refusal) → number r ≡ 0 → ⊥
+some r e = let p = number-positive r in omega arith

@@ -1,18 +1,18 @@
--- The products, one table after the other: made in its place or copied there, and all six as the outer rounds want them.
+-- The products, one table after the other, and all six as the outer rounds want them.
 -- Assumes nothing.
 use mathlib.Core.Path.{◌≡◌, refl, sym, ap, ap₂, ◌∙◌, subst}
-use mathlib.Core.Bool.{Bool, true, false, cond, ◌&&◌}
+use mathlib.Core.Bool.{Bool, true, false, cond}
 use mathlib.Core.List.{List, [], ◌∷◌, ◌++◌}
-use Prim.Native.Nat.{ℕ, ◌+◌, ◌-◌, ◌*◌, ◌/◌, ◌≤◌, ◌<◌, min}
-use native.Mathlib.Nat.{zero-add, suc-add, mul_left_comm}
+use Prim.Native.Nat.{ℕ, zero, suc, ◌+◌, ◌-◌, ◌*◌, ◌/◌, ◌≤◌, ◌<◌, min}
+use native.Mathlib.Nat.{zero-add, mul_left_comm}
 use native.Mathlib.Omega.{arith}
-use lib.Dec.{leb, ltb}
-use lib.ListN.{length, get_or, set, take, drop, length-drop, take-append-drop, get_or-append}
-use lib.Seq.{take_at, drop-drop, get_or-take, length-take-le}
-use borrow.Author.Tests.{le-leb, lt-leb, lt-ltb, le-ltb}
+use lib.Dec.{ltb}
+use lib.ListN.{length, get_or, take, drop, length-drop}
+use lib.Seq.{drop-drop}
+use borrow.Author.Tests.{lt-ltb, le-ltb}
 use borrow.Rule.Slice.PartMut.{put_mid}
 use Rattle.magnetar_field.specs.Words.{elements, words}
-use Rattle.magnetar_field.proofs.Elements.{words-length, copy_more}
+use Rattle.magnetar_field.proofs.Elements.{words-length}
 use Rattle.magnetar_field.proofs.Tabulation.{tabulate-length}
 use Rattle.magnetar_layout.specs.Tests.{Sized}
 use Rattle.magnetar_matrix.specs.Matrix.{Entry, Matrix, System, times, times_at}
@@ -25,59 +25,16 @@ use Rattle.magnetar_r1cs.proofs.Ranges.{range-left}
 use Rattle.magnetar_batch.proofs.Rooms.{back-part, back-put}
 use Rattle.magnetar_protocol.specs.RunSizes.{SizedSystem}
 use Rattle.magnetar_prover.specs.Entries.{table_at, block_words, tables_of}
-use Rattle.magnetar_prover.proofs.Slots.{take-of-drop, mid-length, mid-before, mid-behind, mid_at, mid_back, fore-length, fore-back}
+use Rattle.magnetar_prover.proofs.Slots.{take-of-drop, mid-length, mid-before, mid-behind, mid_at, mid_back}
 use Rattle.magnetar_layout.proofs.Laid.{even-size}
 use Rattle.magnetar_relation.specs.declared.shapes.SystemShape.{SystemShape}
 use Rattle.magnetar_relation.specs.declared.shapes.Shapes.{Shapes}
-use Rattle.magnetar_relation.specs.Rules.{Rules, rules_over, relation_of, system_at, entries_in}
-use Rattle.magnetar_records.specs.declared.records.Entry.{Entry as Record}
-use Rattle.magnetar_records.specs.Records.{entries_of_records}
-use Rattle.magnetar_records.specs.LoginSteps.{products_in}
-use Rattle.magnetar_records.proofs.PackedEnds.{products-in}
-use Rattle.magnetar_records.proofs.WalkLaws.{records-length}
+use Rattle.magnetar_relation.specs.Rules.{Rules, relation_of, system_at, entries_in}
 use Rattle.magnetar_relation.proofs.RangeLaws.{same_drop, range-is}
 use Rattle.magnetar_spartan.specs.declared.products.Part.{Part}
 use Rattle.magnetar_spartan.specs.Refusals.{rows_bin, rows_fld}
-use Rattle.magnetar_spartan.specs.Products.{product_words, part_in, part_of, matrix_in, matrix_no, words_bin, words_fld, words_no, slot, place_no, table_of, copied, Placed, ValidProducts, ProductLeft, tables_wanted, Products, ProductsLeft}
-
--- ---- the copying loop
-set-behind : (xs ys : List ℕ) (i v : ℕ) → set (xs ++ ys) (length xs + i) v ≡ xs ++ set ys i v
-set-behind [] ys i v = ap (λ (k : ℕ). set ys k v) (zero-add i)
-set-behind (x ∷ xs) ys i v = ap (λ (k : ℕ). set (x ∷ (xs ++ ys)) k v) (suc-add (length xs) i) ∙ ap (λ (l : List ℕ). x ∷ l) (set-behind xs ys i v)
-
--- the first i words are copied to place a
-abbrev pub Copied : (a i : ℕ) → (s₀ s : List ℕ) → Type 0
-Copied a i s₀ s = s ≡ take a s₀ ++ (take i s₀ ++ drop i (drop a s₀))
-
-pub copied_none : (a : ℕ) (s : List ℕ) → Copied a 0 s s
-copied_none a s = sym (take-append-drop a s)
-
-pub copied_more : (a i : ℕ) (s₀ s : List ℕ) → Copied a i s₀ s → i < a → a + i < length s₀ → Copied a (i + 1) s₀ (set s (a + i) (get_or s i 0))
-copied_more a i s₀ s e h g =
-    let l : length (take a s₀) ≡ a = length-take-le a s₀ (omega arith) in
-    let b : List ℕ = take i s₀ ++ drop i (drop a s₀) in
-    let v : get_or s i 0 ≡ get_or s₀ i 0 = ap (λ (u : List ℕ). get_or u i 0) e ∙ (get_or-append (take a s₀) b 0 i (omega (arith, l)) ∙ get_or-take a s₀ i 0 h) in
-    ap (λ (n : ℕ). set s (a + i) n) v
-    ∙ (ap (λ (u : List ℕ). set u (a + i) (get_or s₀ i 0)) e
-    ∙ (ap (λ (n : ℕ). set (take a s₀ ++ b) (n + i) (get_or s₀ i 0)) (sym l)
-    ∙ (set-behind (take a s₀) b i (get_or s₀ i 0) ∙ ap (λ (u : List ℕ). take a s₀ ++ u) (copy_more i s₀ (drop a s₀) b refl (omega arith) (rw length-drop (omega arith))))))
-
--- where there is room, and where there is none
-pub copied_some : (a n : ℕ) (s : List ℕ) → n ≤ a → a + n ≤ length s → copied a n s ≡ take a s ++ (take n s ++ drop n (drop a s))
-unfolding copied
-copied_some a n s h g = rw (le-leb n a h, le-leb (a + n) (length s) g)
-
-pub copied-over : (a n : ℕ) (s : List ℕ) → a < n → s ≡ copied a n s
-unfolding copied
-copied-over a n s h = rw (lt-leb n a h)
-
-and-false : (b : Bool) → (b && false) ≡ false
-and-false true = refl
-and-false false = refl
-
-pub copied-long : (a n : ℕ) (s : List ℕ) → length s < a + n → s ≡ copied a n s
-unfolding copied
-copied-long a n s h = rw (lt-leb (a + n) (length s) h, and-false (leb n a))
+use Rattle.magnetar_spartan.specs.Products.{product_words, part_in, part_of, matrix_in, matrix_no, words_bin, words_fld, words_no, slot, place_no}
+use Rattle.magnetar_spartan.specs.Products.{table_of, Placed, ValidProducts, ProductLeft, tables_wanted, Products, ProductsLeft}
 
 -- ---- a table's place, rows and entries
 module _ (k q : ℕ) (t : SystemShape) (p i h w j l : ℕ) (ew : w ≡ product_words q t.a.rows) (ej : j ≡ min (i + t.a.entries) h) where
@@ -97,7 +54,8 @@ module _ (k q : ℕ) (s : Shapes) (h : ℕ) (r : Part) where
   pub part-bin : k < 4 → r ≡ part_in k q s.bin 0 0 h → r ≡ part_of k q s h
   part-bin g e = rw (lt-ltb k 4 g) e
 
-  pub part-fld : 4 ≤ k → (w i : ℕ) → w ≡ product_words q s.bin.a.rows → i ≡ min (0 + entries_in s.bin) h → r ≡ part_in (k - 4) q s.fld (4 * w) i h → r ≡ part_of k q s h
+  pub part-fld : 4 ≤ k → (w i : ℕ) → w ≡ product_words q s.bin.a.rows → i ≡ min (0 + entries_in s.bin) h → r ≡ part_in (k - 4) q s.fld (4 * w) i h
+      → r ≡ part_of k q s h
   part-fld g w i ew ei e = rw (le-ltb k 4 g) (e ∙ ap₂ (λ (a b : ℕ). part_in (k - 4) q s.fld (4 * a) b h) ew ei)
 
 -- ---- one table t of n words at place p of s, in whose place the words made stand
@@ -128,21 +86,6 @@ module _ (n p : ℕ) (t s : List ℕ) (l : length (words t) ≡ n) (h : n ≤ p)
       let d : p + n - p ≡ n = omega arith in
       let f : put_mid p (length s - p) s u ≡ put_mid p (p + n - p) s (words t) = back-put s u p ∙ rw (e, d) in
       subst (Placed n p t s) (sym f) (put-placed n p t s s l refl (λ o k. refl) h g)
-
-  -- made in front and copied to its place
-  placed-copied : (u : List ℕ) → u ≡ words t ++ drop n s → Placed n p t s (copied p n u)
-  placed-copied u e =
-      let d : p + n - p ≡ n = omega arith in
-      let long : length u ≡ length s = ap length e ∙ fore-length s (words t) n (omega arith) l in
-      let f : copied p n u ≡ put_mid p (p + n - p) u (words t) =
-      copied_some p n u h (omega (arith, long, g)) ∙ rw (d, e, take_at (words t) (drop n s) n l) in
-      subst (Placed n p t s) (sym f) (put-placed n p t s u l long (λ o k. ap (drop o) e ∙ past o k) h g)
-    where
-      past : (o : ℕ) → n ≤ o → drop o (words t ++ drop n s) ≡ drop o s
-      past o k =
-          let q : n + (o - n) ≡ o = omega arith in
-          sym (drop-drop (o - n) n (words t ++ drop n s) ∙ ap (λ (i : ℕ). drop i (words t ++ drop n s)) q)
-          ∙ (ap (drop (o - n)) (fore-back s (words t) n (omega arith) l) ∙ (drop-drop (o - n) n s ∙ ap (λ (i : ℕ). drop i s) q))
 
 -- ---- the part of a matrix
 -- it has the rows and the entries of the matrix a, among all entries es, and the table at place p
@@ -180,7 +123,8 @@ part_in_lem k q t p i i' es e = go (ltb k 2) (ltb k 3)
     there a a' n z g f = range-is es a' n z f ∙ ap (take n) (same_drop a' a es g)
 
     go : (b c : Bool)
-        → PartIs (cond b (record { place = p + w; rows = t.a.rows; from = i'; to = j }) (cond c (record { place = p + 2 * w; rows = t.b.rows; from = j; to = l })
+        → PartIs (cond b (record { place = p + w; rows = t.a.rows; from = i'; to = j })
+        (cond c (record { place = p + 2 * w; rows = t.b.rows; from = j; to = l })
         (record { place = p + 3 * w; rows = t.c.rows; from = l; to = min (l + t.c.entries) h }))) es
         (cond b (system_at t i es).a (cond c (system_at t i es).b (system_at t i es).c)) (p + cond b 1 (cond c 2 3) * w)
     go true c = record { rows = refl; entries = there i i' t.a.entries j (omega (arith, e)) refl; place = omega arith }
@@ -231,7 +175,8 @@ module _ (k : ℕ) (R : Rules) (ws x s : List ℕ) (ok : ValidProducts R (length
           let e : 0 + slot k * product_words R.q (rows_bin R) ≡ slot k * words_bin R = rw (bin_words, zero-add) in
           subst (PartIs _ R.entries (matrix_in k (relation_of R).bin)) e (part_in_lem k R.q R.shapes.bin 0 0 0 R.entries (omega arith))
       go false =
-          let e : 4 * product_words R.q (rows_bin R) + slot (k - 4) * product_words R.q (rows_fld R) ≡ 4 * words_bin R + slot (k - 4) * words_fld R = rw (bin_words, fld_words) in
+          let e : 4 * product_words R.q (rows_bin R) + slot (k - 4) * product_words R.q (rows_fld R) ≡ 4 * words_bin R + slot (k - 4) * words_fld R =
+          rw (bin_words, fld_words) in
           subst (PartIs _ R.entries (matrix_in (k - 4) (relation_of R).fld)) e
           (part_in_lem (k - 4) R.q R.shapes.fld (4 * product_words R.q (rows_bin R)) (entries_in R.shapes.bin) _ R.entries (rw zero-add))
 
@@ -321,47 +266,14 @@ module _ (k : ℕ) (R : Rules) (ws x s : List ℕ) (ok : ValidProducts R (length
       let r = range-left M ws x R.q (R.m / 2) (drop (place_no k R) s) (subst (Sized 2 65536) (sym even) ok.columns) ok.logins ok.packed
       (ok.public ∙ ap (λ (i : ℕ). R.q * (i - 2)) (sym even)) (subst (Sized 1 65536) (sym rows_are) fits.size) (rw rows_are fits.most) room in
       let f : u ≡ words T ++ drop (words_no k R) (drop (place_no k R) s) =
-      eu ∙ (ap (λ (y : Part). range_out (record { rows = y.rows; cols = 2 * (R.m / 2); entries = take (y.to - y.from) (drop y.from R.entries) }) ws x R.q (R.m / 2)
+      eu ∙ (ap (λ (y : Part). range_out (record { rows = y.rows; cols = 2 * (R.m / 2); entries = take (y.to - y.from) (drop y.from R.entries) }) ws x R.q
+      (R.m / 2)
       (take (length s - g.place) (drop g.place s))) eg
       ∙ (ap (λ (i : ℕ). range_out M ws x R.q (R.m / 2) (take (length s - i) (drop i s))) e
       ∙ (ap (range_out M ws x R.q (R.m / 2)) (back-part s (place_no k R))
       ∙ (r ∙ ap₂ (λ (l : List ℕ) (i : ℕ). words l ++ drop i (drop (place_no k R) s)) (made-is (2 * (R.m / 2))) twice)))) in
       subst (λ (i : ℕ). Placed (words_no k R) (place_no k R) T s (put_mid i (length s - i) s u)) (sym e)
       (placed-there (words_no k R) (place_no k R) T s T-long fits.free fits.room u f)
-
-  -- made in front by a walk over records, and copied
-  pub moved-there : (g : Part) → g ≡ h → (n : ℕ) → n ≡ product_words R.q g.rows → (u : List ℕ)
-      → u ≡ products_in R.q (R.m / 2) g.rows ws x (take (g.to - g.from) (drop g.from R.entries)) s
-      → Placed (words_no k R) (place_no k R) T s (copied g.place n u)
-  moved-there g eg n en u eu =
-      let M = made R.m in
-      let e : g.place ≡ place_no k R = ap (λ (y : Part). y.place) eg ∙ part-is.place in
-      let f : n ≡ words_no k R =
-      en ∙ (ap (λ (y : Part). product_words R.q y.rows) eg ∙ (ap (product_words R.q) rows_are ∙ (uncut R.q fits.n ok.logins.high fits.size.high ∙ sym fits.words_are))) in
-      let room : R.q * (2 * h.rows) ≤ length s = rw twice (omega (arith, fits.room)) in
-      let r = products-in M ws x R.q (R.m / 2) s ok.logins.high (omega (arith, ok.columns.high)) (subst (Sized 1 65536) (sym rows_are) fits.size) room in
-      let l : u ≡ words T ++ drop (words_no k R) s =
-      eu ∙ (ap (λ (y : Part). products_in R.q (R.m / 2) y.rows ws x (take (y.to - y.from) (drop y.from R.entries)) s) eg
-      ∙ (r ∙ ap₂ (λ (v : List ℕ) (i : ℕ). words v ++ drop i s) (made-is R.m) twice)) in
-      rw (e, f) (placed-copied (words_no k R) (place_no k R) T s T-long fits.free fits.room u l)
-    where
-      uncut : (q n : ℕ) → q ≤ 4096 → n ≤ 65536 → product_words q n ≡ 2 * (q * n)
-      uncut q n a b =
-          let i : min q 4096 ≡ q = omega arith in
-          let j : min n 65536 ≡ n = omega arith in
-          rw (i, j)
-
--- ---- a product over records, call by call
-pub product-ends : (k m q : ℕ) (sh : Shapes) (es : List Record) (ws x s : List ℕ) (g : Part) (w n : ℕ) (s₁ s₂ : List ℕ)
-    → g ≡ part_of k q sh (length es) → w ≡ m / 2
-    → s₁ ≡ products_in q w g.rows ws x (take (g.to - g.from) (drop g.from (entries_of_records es))) s
-    → (n ≡ product_words q g.rows) × (n ≤ 1073741824) → s₂ ≡ copied g.place n s₁
-    → ProductLeft k (rules_over m q [] sh (entries_of_records es)) ws x s s₂
-product-ends k m q sh es ws x s g w n s₁ s₂ eg ew e₁ en e₂ ok =
-    let R : Rules = rules_over m q [] sh (entries_of_records es) in
-    subst (Placed (words_no k R) (place_no k R) (table_of R ws x (matrix_no k (relation_of R))) s) (sym e₂)
-    (moved-there k R ws x s ok g (eg ∙ ap (part_of k q sh) (sym (records-length es))) n en.0 s₁
-    (e₁ ∙ ap (λ (i : ℕ). products_in q i g.rows ws x (take (g.to - g.from) (drop g.from (entries_of_records es))) s) ew))
 
 -- ---- all six
 module _ (R : Rules) (ws x s₀ s₁ s₂ s₃ s₄ s₅ s₆ : List ℕ) (p₁ : ProductLeft 5 R ws x s₀ s₁) (p₂ : ProductLeft 6 R ws x s₁ s₂) (p₃ : ProductLeft 7 R ws x s₂ s₃)
@@ -413,7 +325,8 @@ module _ (R : Rules) (ws x s₀ s₁ s₂ s₃ s₄ s₅ s₆ : List ℕ) (p₁ 
     at-ab : table_at B B s₆ ≡ table_of R ws x (relation_of R).bin.a
     at-ab =
         let e : 1 * B ≡ B = omega arith in
-        ap elements (cb.before B B (omega arith) (omega arith) ∙ bb.before B B (omega arith) (omega arith)) ∙ (ap (λ (i : ℕ). table_at i B s₄) (sym e) ∙ ab.here)
+        ap elements (cb.before B B (omega arith) (omega arith) ∙ bb.before B B (omega arith) (omega arith))
+        ∙ (ap (λ (i : ℕ). table_at i B s₄) (sym e) ∙ ab.here)
 
     at-bb : table_at (2 * B) B s₆ ≡ table_of R ws x (relation_of R).bin.b
     at-bb = ap elements (cb.before (2 * B) B (omega arith) (omega arith)) ∙ bb.here
@@ -421,7 +334,8 @@ module _ (R : Rules) (ws x s₀ s₁ s₂ s₃ s₄ s₅ s₆ : List ℕ) (p₁ 
     at-af : table_at (4 * B + F) F s₆ ≡ table_of R ws x (relation_of R).fld.a
     at-af =
         let e : 4 * B + 1 * F ≡ 4 * B + F = omega arith in
-        ap elements (from-bin (4 * B + F) (omega arith) ∙ (cf.before (4 * B + F) F (omega arith) (omega arith) ∙ bf.before (4 * B + F) F (omega arith) (omega arith)))
+        ap elements (from-bin (4 * B + F) (omega arith)
+        ∙ (cf.before (4 * B + F) F (omega arith) (omega arith) ∙ bf.before (4 * B + F) F (omega arith) (omega arith)))
         ∙ (ap (λ (i : ℕ). table_at i F s₁) (sym e) ∙ af.here)
 
     at-bf : table_at (4 * B + 2 * F) F s₆ ≡ table_of R ws x (relation_of R).fld.b
@@ -453,9 +367,26 @@ module _ (R : Rules) (ws x s₀ s₁ s₂ s₃ s₄ s₅ s₆ : List ℕ) (p₁ 
     six : Products R ws x s₀ s₆
     six = record {
       long = cb.long ∙ (bb.long ∙ (ab.long ∙ (cf.long ∙ (bf.long ∙ af.long))));
-      rest = cb.rest W (omega arith) ∙ (bb.rest W (omega arith) ∙ (ab.rest W (omega arith) ∙ (cf.rest W (omega arith) ∙ (bf.rest W (omega arith) ∙ af.rest W (omega arith)))));
+      rest = cb.rest W (omega arith) ∙ (bb.rest W (omega arith)
+          ∙ (ab.rest W (omega arith) ∙ (cf.rest W (omega arith) ∙ (bf.rest W (omega arith) ∙ af.rest W (omega arith)))));
       tables = tables-are;
     }
 
   pub six-left : ProductsLeft R ws x s₀ s₆
   six-left ok = six ok
+
+-- ---- one after the other
+-- the first n of the tables ks, from the words s to s'
+abbrev pub Made : (R : Rules) (ws x ks : List ℕ) → ℕ → (s s' : List ℕ) → Type 0
+Made R ws x ks zero s s' = s' ≡ s
+Made R ws x ks (suc n) s s' = (u : List ℕ) × (Made R ws x ks n s u × ProductLeft (get_or ks n 0) R ws x u s')
+
+pub all-made : (R : Rules) (ws x s s' : List ℕ) → Made R ws x (5 ∷ 6 ∷ 7 ∷ 1 ∷ 2 ∷ 3 ∷ []) 6 s s' → ProductsLeft R ws x s s'
+all-made R ws x s s' m₆ =
+    let m₅ = m₆.1.0 in
+    let m₄ = m₅.1.0 in
+    let m₃ = m₄.1.0 in
+    let m₂ = m₃.1.0 in
+    let m₁ = m₂.1.0 in
+    subst (λ (u : List ℕ). ProductsLeft R ws x u s') m₁.1.0
+    (six-left R ws x m₁.0 m₂.0 m₃.0 m₄.0 m₅.0 m₆.0 s' m₁.1.1 m₂.1.1 m₃.1.1 m₄.1.1 m₅.1.1 m₆.1.1)

@@ -1,7 +1,7 @@
 -- What the prover leaves, from what its calls leave: the products, the outer rounds over them, the combined table and what is behind it.
 -- Assumes nothing.
 use mathlib.Core.Path.{◌≡◌, refl, sym, ap, ap₂, ◌∙◌, subst}
-use mathlib.Core.Bool.{Bool, true, false, cond}
+use mathlib.Core.Bool.{true}
 use mathlib.Core.List.{List, [], ◌∷◌, ◌++◌, reverse, append_assoc}
 use Prim.Native.Nat.{ℕ, ◌+◌, ◌-◌, ◌*◌, ◌/◌, ◌^◌, ◌≤◌, max}
 use native.Mathlib.Nat.{mul-add}
@@ -10,14 +10,20 @@ use lib.Dec.{eqb}
 use lib.ListN.{length, take, drop, replicate, length-append, length-drop, length-replicate, replicate-append-replicate}
 use lib.Pow.{split}
 use lib.Seq.{take_at, drop_at, take-append-le, drop-append-le}
-use borrow.Author.Tests.{lt-ltb, eq-eqb, ne_eqb, eqb-true, eqb-false}
+use borrow.Author.Tests.{lt-ltb, eq-eqb, ne_eqb}
+use Rattle.std.specs.Prelude.{Result, Ok, Err, IfOk}
+use Rattle.std.specs.Result.{IsErrAnd}
+use Rattle.magnetar_hash.specs.Transcript.{TranscriptAnswer}
+use Rattle.magnetar_hash.specs.Transcript.{answer_of}
+use Rattle.magnetar_field.specs.declared.refusal.Refusal.{Refusal}
+use Rattle.magnetar_field.specs.Number.{number}
 use Rattle.magnetar_field.specs.Sizes.{log₂}
 use Rattle.magnetar_field.specs.Words.{elements, words, overlaid}
 use Rattle.magnetar_field.proofs.Elements.{words-length, words_append, elements-length}
 use Rattle.magnetar_hash.specs.declared.transcript.Transcript.{Transcript}
 use Rattle.magnetar_hash.specs.Transcript.{absorbed, drawn}
 use Rattle.magnetar_layout.specs.Every.{every}
-use Rattle.magnetar_layout.specs.Tests.{first_refusal, room_test}
+use Rattle.magnetar_layout.specs.Tests.{room_test}
 use Rattle.magnetar_matrix.specs.Batch.{Relation, Batch, folded, public_folded}
 use Rattle.magnetar_matrix.specs.Packed.{packed_table}
 use Rattle.magnetar_matrix.proofs.TableLaws.{elements-words}
@@ -28,7 +34,8 @@ use Rattle.magnetar_protocol.specs.Checks.{combined}
 use Rattle.magnetar_protocol.specs.Run.{claims}
 use Rattle.magnetar_protocol.specs.RunSizes.{SizedMatrix}
 use Rattle.magnetar_protocol.specs.Prover.{product_table, prover_proof, prover_claims}
-use Rattle.magnetar_schedule.specs.Stepwise.{Steps, Tables, begin, tau_steps, outer_all, draw_times, send_each, outer_steps, fld_rows, bin_rows, outer_begin, terminals_left, inner_all, inner_run, segment_value, low_draws, ended}
+use Rattle.magnetar_schedule.specs.Stepwise.{Steps, Tables, begin, tau_steps, outer_all, draw_times, send_each, outer_steps, fld_rows, bin_rows}
+use Rattle.magnetar_schedule.specs.Stepwise.{outer_begin, terminals_left, inner_all, inner_run, segment_value, low_draws, ended}
 use Rattle.magnetar_schedule.specs.RealRun.{prover_draws, prover_transcript}
 use Rattle.magnetar_schedule.proofs.Blocks.{claims-outlined}
 use Rattle.magnetar_protocol.proofs.Splits.{combined-split}
@@ -37,21 +44,21 @@ use Rattle.magnetar_schedule.proofs.Proving.{product_tables, outer_proving, prov
 use Rattle.magnetar_schedule.proofs.Stepwise.{proving-after, outer-proving-sent, outer-proving-count}
 use Rattle.magnetar_schedule.proofs.ProverRun.{proving-words, proving-transcript, proving-claims}
 use Rattle.magnetar_protocol.specs.RunTests.{counter_tests}
-use Rattle.magnetar_prover.specs.Entries.{count_tests, total_tests, outer_drawn, outer_sent, block_words, tables_of, outer_rounds_refusal, outer_run_steps}
+use Rattle.magnetar_prover.specs.Entries.{answer_for, count_tests, total_tests, outer_drawn, outer_sent, block_words, tables_of, outer_rounds_refusal}
+use Rattle.magnetar_prover.specs.Entries.{outer_run_steps}
 use Rattle.magnetar_prover.specs.Whole.{outer_whole}
 use Rattle.magnetar_prover.proofs.Joined.{whole_is}
 use Rattle.magnetar_relation.specs.Rules.{Rules, relation_of}
-use Rattle.magnetar_relation.specs.RuleTests.{rule_tests}
 use Rattle.magnetar_spartan.specs.Refusals.{sizes_only_of, rows_bin, rows_fld, proof_words, claim_words, prover_scratch_of}
-use Rattle.magnetar_spartan.specs.Numbers.{prove_tests_by}
 use Rattle.magnetar_spartan.specs.ValidRules.{ValidRules}
 use Rattle.magnetar_spartan.specs.Table.{table_at}
-use Rattle.magnetar_spartan.specs.Outcome.{batch_of, prove_draws, prove_refusal, prove_outcome, proved_in_place, columns_of}
+use Rattle.magnetar_spartan.specs.Outcome.{batch_of, prove_draws, prove_refusal, prove_outcome, proved, proved_in_place, columns_of}
 use Rattle.magnetar_spartan.specs.Theorems.{AreWords, ProvedCall}
-use Rattle.magnetar_spartan.specs.Proving.{sizes_only_rules, ValidRun, outer_number, OuterDone, sent_before, drawn_before, sent_all, drawn_all, inner_part_steps, InnerPartLeft}
+use Rattle.magnetar_spartan.specs.Proving.{sizes_only_rules, ValidRun, outer_number, OuterDone, sent_before, drawn_before, sent_all, drawn_all}
+use Rattle.magnetar_spartan.specs.Proving.{inner_part_steps, InnerPartLeft}
 use Rattle.magnetar_spartan.specs.Products.{tables_wanted, Products, ProductsLeft}
 use Rattle.magnetar_spartan.proofs.PassedTests.{first-refusal-none, size-passes, most-passes, true-passes}
-use Rattle.magnetar_spartan.proofs.ByNumbers.{prove-by}
+use Rattle.magnetar_spartan.proofs.PassedTests.{some}
 use Rattle.magnetar_spartan.proofs.Ended.{provable, draws-small}
 use Rattle.magnetar_spartan.proofs.Room.{Beyond}
 use Rattle.magnetar_spartan.proofs.DrawnTable.{drawn-combined, drawn-beyond}
@@ -141,9 +148,9 @@ module _ (R : Rules) (ws x w c s : List ℕ) (t : Transcript)
     blocks : block_words q b f ≤ prover_scratch_of R
     blocks = omega (arith, mul-add q b f)
 
-    none : outer_number q b f w s₁ t ≡ 0
+    pub outer_none : outer_number q b f w s₁ t ≡ 0
     unfolding outer_rounds_refusal
-    none =
+    outer_none =
         first-refusal-none (count_tests q b f ++ total_tests q b f ++ (counter_tests t.squeeze_ctr ++ (room_test (2 * outer_drawn (log₂ q) (log₂ b) (log₂ f)) z₀
         ++ room_test (2 * outer_sent (log₂ q) (log₂ b) (log₂ f)) w ++ room_test (block_words q b f) s₁))) (
           size-passes 1 4096 q ok.ready.logins,
@@ -181,18 +188,18 @@ module _ (R : Rules) (ws x w c s : List ℕ) (t : Transcript)
 
     module _ (u : Transcript) (d v s₂ : List ℕ) (done : OuterDone q b f w s₁ t u d v s₂) where
       u-is : u ≡ O.run_state.transcript
-      u-is = done.0 ∙ rw (none, played-is)
+      u-is = done.0 ∙ rw (outer_none, played-is)
 
       d-is : d ≡ words O.run_state.draws ++ drop (drawn_before R) z₀
       d-is =
-          done.1 ∙ rw (none, played-is)
+          done.1 ∙ rw (outer_none, played-is)
           (laid-front (words O.run_state.draws) z₀ (drawn_before R) drawn-long (rw (length-replicate {A = ℕ} 256 0) (omega (arith, small))))
 
       v-is : v ≡ words O.sent ++ drop (sent_before R) w
-      v-is = done.2 ∙ rw (none, played-is) (laid-front (words O.sent) w (sent_before R) sent-long (omega (arith, ok.proof)))
+      v-is = done.2 ∙ rw (outer_none, played-is) (laid-front (words O.sent) w (sent_before R) sent-long (omega (arith, ok.proof)))
 
       s₂_is : s₂ ≡ replicate (block_words q b f) 0 ++ drop (block_words q b f) s
-      s₂_is = done.3 ∙ rw (none, P.rest)
+      s₂_is = done.3 ∙ rw (outer_none, P.rest)
 
       counter-is : u.squeeze_ctr ≡ 6
       unfolding outer_proving
@@ -214,7 +221,8 @@ module _ (R : Rules) (ws x w c s : List ℕ) (t : Transcript)
           ∙ omega (arith, length-replicate {A = ℕ} (block_words q b f) 0, length-drop (block_words q b f) s, blocks, ok.scratch))
 
       s₂-rest : drop (prover_scratch_of R) s₂ ≡ drop (prover_scratch_of R) s
-      s₂-rest = ap (drop (prover_scratch_of R)) s₂_is ∙ behind-front (block_words q b f) (prover_scratch_of R) (replicate (block_words q b f) 0) s (length-replicate (block_words q b f) 0) blocks
+      s₂-rest = ap (drop (prover_scratch_of R)) s₂_is
+          ∙ behind-front (block_words q b f) (prover_scratch_of R) (replicate (block_words q b f) 0) s (length-replicate (block_words q b f) 0) blocks
 
       -- the words of all draws, those of the inner rounds being 0 so far
       abbrev pub D : List ℕ
@@ -256,8 +264,10 @@ module _ (R : Rules) (ws x w c s : List ℕ) (t : Transcript)
         unfolding login_point draws_of
         point-is =
             let h : length O.run_state.draws ≡ draw_count o - log_cols o = outer-proving-count r B (columns_of R x) t in
-            let e : elements d ≡ O.run_state.draws ++ elements (drop (drawn_before R) z₀) = ap elements d-is ∙ elements-behind O.run_state.draws (drop (drawn_before R) z₀) in
-            ap reverse (ap (λ (l : List ℕ). take (log₂ q) (drop k l)) e ∙ (ap (take (log₂ q)) (drop-append-le k O.run_state.draws (elements (drop (drawn_before R) z₀)) (omega (arith, h)))
+            let e : elements d ≡ O.run_state.draws ++ elements (drop (drawn_before R) z₀) =
+            ap elements d-is ∙ elements-behind O.run_state.draws (drop (drawn_before R) z₀) in
+            ap reverse (ap (λ (l : List ℕ). take (log₂ q) (drop k l)) e
+            ∙ (ap (take (log₂ q)) (drop-append-le k O.run_state.draws (elements (drop (drawn_before R) z₀)) (omega (arith, h)))
             ∙ take-append-le (log₂ q) (drop k O.run_state.draws) (elements (drop (drawn_before R) z₀)) (rw length-drop (omega (arith, h)))))
 
         abbrev inner : (T F H : List ℕ) → Transcript → Steps
@@ -282,7 +292,8 @@ module _ (R : Rules) (ws x w c s : List ℕ) (t : Transcript)
 
         drawn-is : drawn_all R d p ≡ words (proving r B (columns_of R x) t).run_state.draws
         drawn-is =
-            ap (λ (l : List ℕ). l ++ words p.run_state.draws) (ap (take (drawn_before R)) d-is ∙ take_at (words O.run_state.draws) (drop (drawn_before R) z₀) (drawn_before R) drawn-long)
+            ap (λ (l : List ℕ). l ++ words p.run_state.draws)
+            (ap (take (drawn_before R)) d-is ∙ take_at (words O.run_state.draws) (drop (drawn_before R) z₀) (drawn_before R) drawn-long)
             ∙ (sym (words_append O.run_state.draws p.run_state.draws) ∙ ap (λ (y : Steps). words y.run_state.draws) whole)
 
         later-ready : ValidRun (sizes_only_rules R.m q b f R.lengths) (length ws) (length x) (length v) (length c) (length s₃) u.squeeze_ctr
@@ -309,87 +320,77 @@ module _ (R : Rules) (ws x w c s : List ℕ) (t : Transcript)
             e.1 ∙ ap₂ ◌++◌ (said-is ∙ ap words (proving-words r B (columns_of R x) t ok.ready))
             (ap (drop (proof_words R)) v-is ∙ behind-front (sent_before R) (proof_words R) (words O.sent) w sent-long (omega arith)) in
             let cl : claims o (elements (sent_all R v p)) (elements (drawn_all R d p)) ≡ prover_claims r B (prover_draws r B (columns_of R x) t) =
-            ap₂ (claims o) (ap elements said-is ∙ elements-words (proving r B (columns_of R x) t).sent) (ap elements drawn-is ∙ elements-words (proving r B (columns_of R x) t).run_state.draws)
+            ap₂ (claims o) (ap elements said-is ∙ elements-words (proving r B (columns_of R x) t).sent)
+            (ap elements drawn-is ∙ elements-words (proving r B (columns_of R x) t).run_state.draws)
             ∙ (sym (claims-outlined r (proving r B (columns_of R x) t).sent (proving r B (columns_of R x) t).run_state.draws)
             ∙ proving-claims r B (columns_of R x) t ok.ready) in
-            let ec : c' ≡ words (prover_claims r B (prover_draws r B (columns_of R x) t)) ++ drop (claim_words R) c = e.2 ∙ ap (λ (l : List ℕ). words l ++ drop (claim_words R) c) cl in
-            let es : s' ≡ replicate (prover_scratch_of R) 0 ++ drop (prover_scratch_of R) s = e.3 ∙ ap (λ (l : List ℕ). replicate (prover_scratch_of R) 0 ++ l) (rest ∙ s₂-rest) in
+            let ec : c' ≡ words (prover_claims r B (prover_draws r B (columns_of R x) t)) ++ drop (claim_words R) c =
+            e.2 ∙ ap (λ (l : List ℕ). words l ++ drop (claim_words R) c) cl in
+            let es : s' ≡ replicate (prover_scratch_of R) 0 ++ drop (prover_scratch_of R) s =
+            e.3 ∙ ap (λ (l : List ℕ). replicate (prover_scratch_of R) 0 ++ l) (rest ∙ s₂-rest) in
             rw (z, eu, ew, ec, es)
 
--- ---- the whole prover: y is the number of 4 to 7, z that of all tests
+-- ---- the whole prover
 abbrev pub unlaid : Rules → Rules
 unlaid R = record { m = R.m; q = R.q; lengths = []; shapes = R.shapes; numbers = R.numbers; entries = R.entries }
 
 module _ (R : Rules) (ws x w c s : List ℕ) (t : Transcript) where
-  -- turned back with the number z
-  pub turned-back : (z : ℕ) → z ≡ prove_refusal R ws x t w c s → (z ≡ 0 → ⊥)
-      → (proved_in_place z t w c s ≡ prove_outcome R ws x t w c s) × (z ≡ 0 → ProvedCall R ws x t w c t)
+  -- turned back
+  pub turned-back : (r : Refusal) → number r ≡ prove_refusal R ws x t w c s → proved_in_place (number r) t w c s ≡ prove_outcome R ws x t w c s
   unfolding prove_outcome
-  turned-back z e h = (rw (← e, ne_eqb z 0 h), λ i. absurd (h i))
+  turned-back r e = rw (← e, ne_eqb (number r) 0 (some r))
 
-  -- run through: the products, the outer rounds, the combined table, and what is behind it
-  pub run-through : prove_refusal R ws x t w c s ≡ 0 → (s₁ s₂ s₃ : List ℕ) (u u' : Transcript) (d v w' c' s' : List ℕ) → ProductsLeft (unlaid R) ws x s s₁
-      → OuterDone R.q (rows_bin R) (rows_fld R) w s₁ t u d v s₂ → s₃ ≡ table_at (relation_of R) d s₂
-      → AreWords x × (length d ≡ 256 → InnerPartLeft (sizes_only_rules R.m R.q (rows_bin R) (rows_fld R) R.lengths) ws x v d c s₃ u u' w' c' s')
-      → (proved_in_place 0 u' w' c' s' ≡ prove_outcome R ws x t w c s) × ProvedCall R ws x t w' c' u'
-  unfolding prove_refusal
-  run-through none s₁ s₂ s₃ u u' d v w' c' s' products done table later =
-      let ok = provable R ws x t.squeeze_ctr (length w) (length c) (length s) none in
-      let P = products (record {
-        columns = ok.ready.columns;
-        logins = ok.ready.logins;
-        bin = ok.ready.bin;
-        fld = ok.ready.fld;
-        packed = ok.packed;
-        public = ok.public;
-        room = omega (arith, ok.scratch, mul-add R.q (rows_bin R) (rows_fld R));
-      }) in
-      let Q : Products R ws x s s₁ = record { long = P.long; rest = P.rest; tables = P.tables } in
-      let enough : 2 * R.m + 2 * max (rows_bin R) (rows_fld R) ≤ length s₂ = omega (arith, s₂-long R ws x w c s t ok s₁ Q u d v s₂ done, ok.scratch) in
-      let drawn = D R ws x w c s t ok s₁ Q u d v s₂ done in
-      let many = D-long R ws x w c s t ok s₁ Q u d v s₂ done in
-      let e : s₃ ≡ table_at (relation_of R) (overlaid drawn (replicate 256 0)) s₂ =
-      table ∙ ap (λ (l : List ℕ). table_at (relation_of R) l s₂) (D-over R ws x w c s t ok s₁ Q u d v s₂ done) in
-      let b : Beyond (prover_scratch_of R) s₂ s₃ = subst (Beyond (prover_scratch_of R) s₂) (sym e) (drawn-beyond R ok.ready drawn many s₂ enough (prover_scratch_of R) (omega arith)) in
-      let front = ap (λ (l : List ℕ). take R.m (elements l)) e ∙ drawn-combined R ok.ready drawn many s₂ enough in
-      let o : proved_in_place 0 u' w' c' s' ≡ prove_outcome R ws x t w c s =
-      run_is R ws x w c s t ok s₁ Q u d v s₂ done s₃ front b.long b.rest none u' w' c' s'
-      (later.1 (d-long R ws x w c s t ok s₁ Q u d v s₂ done)) in
-      (o, proved-call R ws x t w c s (proved_in_place 0 u' w' c' s') later.0 o refl)
+  -- of what a `?` hands on
+  pub handed-back : (r : Result Transcript Refusal) (e : Refusal) → IsErrAnd r (λ y. y ≡ e) → number e ≡ prove_refusal R ws x t w c s
+      → (P : Transcript → Type 0) → (proved (answer_of t r) w c s ≡ prove_outcome R ws x t w c s) × IfOk r P
+  handed-back (Ok u) e h f P = absurd h
+  handed-back (Err y) e h f P = (turned-back y (ap number h ∙ f), tt)
 
-module _ (R : Rules) (ws x w c s : List ℕ) (t : Transcript) (y z : ℕ) (hy : y ≡ first_refusal 0 (rule_tests R))
-    (hz : z ≡ first_refusal 0 (prove_tests_by y (sizes_only_of R) (length ws) (length x) t.squeeze_ctr (length w) (length c) (length s))) where
-  pub number : z ≡ prove_refusal R ws x t w c s
-  unfolding prove_refusal
-  number = hz ∙ prove-by R y hy ws x t.squeeze_ctr (length w) (length c) (length s)
+  -- run through
+  module _ (unrefused : 0 ≡ prove_refusal R ws x t w c s) where
+    none : prove_refusal R ws x t w c s ≡ 0
+    none = sym unrefused
 
--- ---- the prover over records: nothing changes where its number n is a refusal
-pub products-some : (n : ℕ) (R : Rules) (ws x s s' : List ℕ) (go : Bool) → go ≡ eqb n 0 → go ≡ true → ProductsLeft R ws x s s'
-    → (n ≡ 0 → ProductsLeft R ws x s s') × ((n ≡ 0 → ⊥) → s' ≡ s)
-products-some n R ws x s s' go e b h = (λ z. h, λ k. absurd (k (eqb-true n 0 (sym e ∙ b))))
+    ok : ValidRun R (length ws) (length x) (length w) (length c) (length s) t.squeeze_ctr
+    ok = provable R ws x t.squeeze_ctr (length w) (length c) (length s) (unfold prove_refusal in none)
 
-pub products-none : (n : ℕ) (R : Rules) (ws x s : List ℕ) (go : Bool) → go ≡ eqb n 0 → go ≡ false
-    → (n ≡ 0 → ProductsLeft R ws x s s) × ((n ≡ 0 → ⊥) → s ≡ s)
-products-none n R ws x s go e b = (λ z. absurd (eqb-false n 0 (sym e ∙ b) z), λ k. refl)
+    made : (s₁ : List ℕ) → ProductsLeft (unlaid R) ws x s s₁ → Products R ws x s s₁
+    made s₁ products =
+        let P = products (record {
+          columns = ok.ready.columns;
+          logins = ok.ready.logins;
+          bin = ok.ready.bin;
+          fld = ok.ready.fld;
+          packed = ok.packed;
+          public = ok.public;
+          room = omega (arith, ok.scratch, mul-add R.q (rows_bin R) (rows_fld R));
+        }) in
+        record { long = P.long; rest = P.rest; tables = P.tables }
 
-module _ (R : Rules) (ws x w c s : List ℕ) (t : Transcript) (n : ℕ) (s₁ s₂ s₃ : List ℕ) (u u' : Transcript) (d d' v w' c' s' : List ℕ)
-    (products : (n ≡ 0 → ProductsLeft (unlaid R) ws x s s₁) × ((n ≡ 0 → ⊥) → s₁ ≡ s))
-    (done : (n ≡ 0 → OuterDone R.q (rows_bin R) (rows_fld R) w s₁ t u d v s₂) × ((n ≡ 0 → ⊥) → (u ≡ t) × (v ≡ w) × (s₂ ≡ s₁)))
-    (drawn-is : d' ≡ d) (table : s₃ ≡ cond (eqb n 0) (table_at (relation_of R) d' s₂) s₂)
-    (later : (n ≡ 0 → AreWords x × (length d ≡ 256 → InnerPartLeft (sizes_only_rules R.m R.q (rows_bin R) (rows_fld R) R.lengths) ws x v d c s₃ u u' w' c' s'))
-    × ((n ≡ 0 → ⊥) → (u' ≡ u) × (w' ≡ v) × (c' ≡ c) × (s' ≡ s₃))) (e : n ≡ prove_refusal R ws x t w c s) where
-  pub unless-ends : (proved_in_place n u' w' c' s' ≡ prove_outcome R ws x t w c s) × (n ≡ 0 → ProvedCall R ws x t w' c' u')
-  unless-ends = go (eqb n 0) refl
-    where
-      go : (b : Bool) → eqb n 0 ≡ b → (proved_in_place n u' w' c' s' ≡ prove_outcome R ws x t w c s) × (n ≡ 0 → ProvedCall R ws x t w' c' u')
-      go true b =
-          let z : n ≡ 0 = eqb-true n 0 b in
-          let r = run-through R ws x w c s t (sym e ∙ z) s₁ s₂ s₃ u u' d v w' c' s' (products.0 z) (done.0 z)
-          (table ∙ (rw b (ap (λ (l : List ℕ). table_at (relation_of R) l s₂) drawn-is))) (later.0 z) in
-          (ap (λ (i : ℕ). proved_in_place i u' w' c' s') z ∙ r.0, λ i. r.1)
-      go false b =
-          let k : n ≡ 0 → ⊥ = eqb-false n 0 b in
-          let o = done.1 k in
-          let l = later.1 k in
-          let es : s' ≡ s = l.3 ∙ (table ∙ (rw b (o.2 ∙ products.1 k))) in
-          rw (l.0, o.0, l.1, o.1, l.2, es) (turned-back R ws x w c s t n e k)
+    -- the outer rounds over the products are refused by nothing
+    pub outer-passes : (s₁ : List ℕ) → ProductsLeft (unlaid R) ws x s s₁ → outer_number R.q (rows_bin R) (rows_fld R) w s₁ t ≡ 0
+    outer-passes s₁ products = outer_none R ws x w c s t ok s₁ (made s₁ products)
+
+    pub outer-unrefused : (s₁ : List ℕ) → ProductsLeft (unlaid R) ws x s s₁ → (e : Refusal)
+        → answer_of t (Err e) ≡ answer_for (outer_number R.q (rows_bin R) (rows_fld R) w s₁ t) (outer_run_steps R.q (rows_bin R) (rows_fld R) s₁ t) t → ⊥
+    outer-unrefused s₁ products e h = some e (ap (λ (a : TranscriptAnswer). a.code) h ∙ outer-passes s₁ products)
+
+    -- the products, the outer rounds, the combined table, and what is behind it
+    pub run-through : (s₁ s₂ s₃ : List ℕ) (u u' : Transcript) (d v w' c' s' : List ℕ) → ProductsLeft (unlaid R) ws x s s₁
+        → OuterDone R.q (rows_bin R) (rows_fld R) w s₁ t u d v s₂ → s₃ ≡ table_at (relation_of R) d s₂
+        → AreWords x × (length d ≡ 256 → InnerPartLeft (sizes_only_rules R.m R.q (rows_bin R) (rows_fld R) R.lengths) ws x v d c s₃ u u' w' c' s')
+        → (proved_in_place 0 u' w' c' s' ≡ prove_outcome R ws x t w c s) × ProvedCall R ws x t w' c' u'
+    run-through s₁ s₂ s₃ u u' d v w' c' s' products done table later =
+        let Q = made s₁ products in
+        let enough : 2 * R.m + 2 * max (rows_bin R) (rows_fld R) ≤ length s₂ = omega (arith, s₂-long R ws x w c s t ok s₁ Q u d v s₂ done, ok.scratch) in
+        let drawn = D R ws x w c s t ok s₁ Q u d v s₂ done in
+        let many = D-long R ws x w c s t ok s₁ Q u d v s₂ done in
+        let e : s₃ ≡ table_at (relation_of R) (overlaid drawn (replicate 256 0)) s₂ =
+        table ∙ ap (λ (l : List ℕ). table_at (relation_of R) l s₂) (D-over R ws x w c s t ok s₁ Q u d v s₂ done) in
+        let b : Beyond (prover_scratch_of R) s₂ s₃ =
+        subst (Beyond (prover_scratch_of R) s₂) (sym e) (drawn-beyond R ok.ready drawn many s₂ enough (prover_scratch_of R) (omega arith)) in
+        let front = ap (λ (l : List ℕ). take R.m (elements l)) e ∙ drawn-combined R ok.ready drawn many s₂ enough in
+        let o : proved_in_place 0 u' w' c' s' ≡ prove_outcome R ws x t w c s =
+        run_is R ws x w c s t ok s₁ Q u d v s₂ done s₃ front b.long b.rest none u' w' c' s'
+        (later.1 (d-long R ws x w c s t ok s₁ Q u d v s₂ done)) in
+        (o, proved-call R ws x t w c s (proved_in_place 0 u' w' c' s') later.0 o refl)

@@ -54,7 +54,8 @@ module _ (w : ℕ) (s point u : List ℕ) (P : Sized 1 32768 w) (room : 4 * w �
   lent = simp (length-take, length-drop) (omega arith)
 
   built : u ≡ words (eq_table (elements point))
-  built = e ∙ eq-built point (take (4 * w - 2 * w) (drop (2 * w) s)) (point-of 1 w point (take (4 * w - 2 * w) (drop (2 * w) s)) (sized-wider 65536 (omega arith) P) lp lent)
+  built = e ∙ eq-built point (take (4 * w - 2 * w) (drop (2 * w) s))
+      (point-of 1 w point (take (4 * w - 2 * w) (drop (2 * w) s)) (sized-wider 65536 (omega arith) P) lp lent)
 
   power : 2 ^ (length point / 2) ≡ w
   power = let k : length point / 2 ≡ log₂ w = omega arith in rw k (sym P.power)
@@ -63,7 +64,8 @@ module _ (w : ℕ) (s point u : List ℕ) (P : Sized 1 32768 w) (room : 4 * w �
   size = rw (built, words-length, eq_table-length, elements-length) (omega (arith, power))
 
   pub front-dot : dot (elements (take (2 * w - 0) (take (2 * w) s ++ (u ++ drop (4 * w - 2 * w) (drop (2 * w) s)))))
-      (elements (take (4 * w - 2 * w) (drop (2 * w) (take (2 * w) s ++ (u ++ drop (4 * w - 2 * w) (drop (2 * w) s)))))) ≡ mle (take w (elements s)) (elements point)
+      (elements (take (4 * w - 2 * w) (drop (2 * w) (take (2 * w) s ++ (u ++ drop (4 * w - 2 * w) (drop (2 * w) s)))))) ≡ mle (take w (elements s))
+      (elements point)
   unfolding mle
   front-dot =
       let z : 2 * w - 0 ≡ 2 * w = omega arith in
@@ -84,7 +86,8 @@ module _ (w : ℕ) (s point u : List ℕ) (P : Sized 1 32768 w) (room : 4 * w �
       let l : length (take (2 * w) s ++ u) ≡ 4 * w = rw (length-append, front, size) (omega arith) in
       let k : 4 * w - 2 * w + 2 * w ≡ 4 * w = omega arith in
       let k' : 2 * w + (4 * w - 2 * w) ≡ 4 * w = omega arith in
-      ap (drop (4 * w)) (sym (append_assoc (take (2 * w) s) u r)) ∙ (drop_at (take (2 * w) s ++ u) r (4 * w) l ∙ (drop-drop (4 * w - 2 * w) (2 * w) s ∙ ap (λ (i : ℕ). drop i s) k'))
+      ap (drop (4 * w)) (sym (append_assoc (take (2 * w) s) u r))
+      ∙ (drop_at (take (2 * w) s ++ u) r (4 * w) l ∙ (drop-drop (4 * w - 2 * w) (2 * w) s ∙ ap (λ (i : ℕ). drop i s) k'))
 
 -- ---- the steps
 module _ (m q : ℕ) (x p y s : List ℕ) where
@@ -95,7 +98,8 @@ module _ (m q : ℕ) (x p y s : List ℕ) where
   unfolding public_value public_left public_refusal
   public-short h = let b = lt-ltb (length s) (2 * m + 2 * q) h in (rw b, rw b)
 
-  pub public-refused : (n : ℕ) (s' : List ℕ) → 2 * m + 2 * q ≤ length s → n ≡ public_in_refusal x q (m / 2) p s → (n ≡ 0 → ⊥) → s' ≡ public_in_out x q (m / 2) p s → Is 0 s'
+  pub public-refused : (n : ℕ) (s' : List ℕ) → 2 * m + 2 * q ≤ length s → n ≡ public_in_refusal x q (m / 2) p s → (n ≡ 0 → ⊥)
+      → s' ≡ public_in_out x q (m / 2) p s → Is 0 s'
   unfolding public_value public_left public_refusal
   public-refused n s' h e z f =
       let b = le-ltb (length s) (2 * m + 2 * q) h in
@@ -113,7 +117,8 @@ module _ (m q : ℕ) (x p y s : List ℕ) where
     pub size_is : Sized 1 32768 w
     unfolding public_in_refusal
     size_is =
-        let k = (first-refusal-clear 0 (size_tests (2 * w) q ++ public_tests (2 * w) q x ++ length_test (2 * log₂ q) p ++ room_test (2 * w + 2 * q) s) refl none).1 in
+        let k = (first-refusal-clear 0 (size_tests (2 * w) q ++ public_tests (2 * w) q x ++ length_test (2 * log₂ q) p ++ room_test
+        (2 * w + 2 * q) s) refl none).1 in
         not-bad (rw (← half-size w) at k.0)
 
     abbrev F : List ℕ
@@ -135,24 +140,28 @@ module _ (m q : ℕ) (x p y s : List ℕ) where
     beyond s₁ f =
         let t = words F ++ replicate (2 * q) 0 in
         let l : length t ≡ 2 * w + 2 * q = rw (length-append, words-length, F-long, length-replicate) in
-        let g = in-front (2 * m + 2 * q) s t (drop (2 * w + 2 * q) s) (omega (arith, l)) (rw (l, length-drop) (omega (arith, h))) (ap (λ (i : ℕ). drop i s) (sym l)) in
+        let g = in-front (2 * m + 2 * q) s t (drop (2 * w + 2 * q) s) (omega (arith, l)) (rw (l, length-drop) (omega (arith, h)))
+        (ap (λ (i : ℕ). drop i s) (sym l)) in
         let d : s₁ ≡ t ++ drop (2 * w + 2 * q) s = folded-is s₁ f ∙ sym (append_assoc (words F) (replicate (2 * q) 0) (drop (2 * w + 2 * q) s)) in
         record { long = ap length d ∙ g.long; rest = ap (drop (2 * m + 2 * q)) d ∙ g.rest }
 
     pub public-some : (l v : ℕ) (s₁ s₂ s₃ : List ℕ) → s₁ ≡ public_in_out x q w p s → l ≡ log₂ w
-        → v ≡ mle (take w (elements s₁)) (elements (take (2 * l - 0) y)) → length s₂ ≡ length s₁ → drop (4 * w) s₂ ≡ drop (4 * w) s₁ → s₃ ≡ cleared_to (m + q) s₂ → Is v s₃
+        → v ≡ mle (take w (elements s₁)) (elements (take (2 * l) y)) → length s₂ ≡ length s₁ → drop (4 * w) s₂ ≡ drop (4 * w) s₁
+        → s₃ ≡ cleared_to (m + q) s₂ → Is v s₃
     unfolding public_value public_left public_refusal
     public-some l v s₁ s₂ s₃ f el ev ls rs ec =
         let Z = size_is in
         let b = le-ltb (length s) (2 * m + 2 * q) h in
-        let k : 2 * l - 0 ≡ min (2 * log₂ w) 32 = omega (arith, el, log-most w (omega (arith, Z.high)) Z.power) in
+        let k : 2 * l ≡ min (2 * log₂ w) 32 = omega (arith, el, log-most w (omega (arith, Z.high)) Z.power) in
         let g = beyond s₁ f in
         let j : 4 * w + (2 * m + 2 * q - 4 * w) ≡ 2 * m + 2 * q = omega arith in
         let past : (u : List ℕ) → drop (2 * m + 2 * q) u ≡ drop (2 * m + 2 * q - 4 * w) (drop (4 * w) u) =
         λ u. sym (drop-drop (2 * m + 2 * q - 4 * w) (4 * w) u ∙ ap (λ (i : ℕ). drop i u) j) in
         let r : drop (2 * m + 2 * q) s₂ ≡ drop (2 * m + 2 * q) s = past s₂ ∙ (ap (drop (2 * m + 2 * q - 4 * w)) rs ∙ (sym (past s₁) ∙ g.rest)) in
-        let d : 2 * (m + q) ≡ 2 * m + 2 * q = omega arith in
-        (rw (b, none) (ev ∙ rw (half-front s₁ f, k)), rw (b, none) (ec ∙ cleared-same (m + q) s s₂ (omega (arith, h)) (record { long = ls ∙ g.long; rest = rw d r })))
+        let d : 2 * (m + q) ≡ 2 * m + 2 * q = omega arith in (
+          rw (b, none) (ev ∙ rw (half-front s₁ f, k)),
+          rw (b, none) (ec ∙ cleared-same (m + q) s s₂ (omega (arith, h)) (record { long = ls ∙ g.long; rest = rw d r })),
+        )
 
 -- a point by its length and its elements
 pub same_point : (m q : ℕ) (x p t y s : List ℕ) → length p ≡ 2 * length t → elements p ≡ t

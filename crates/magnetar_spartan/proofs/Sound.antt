@@ -93,7 +93,8 @@ module _ (R : Rules) (x w : List ℕ) (t : Transcript) (c s : List ℕ) (e : (ve
       ≡ words (claims (relation_of R) (elements w) (verifier_draws (relation_of R) (elements w) t))
   unfolding verify_outcome verify_claims
   returned-words =
-      rw (not-refused, passed) (front (claims (relation_of R) (elements w) (verifier_draws (relation_of R) (elements w) t)) (drop (claim_words R) c) (claim_words R) claims-size)
+      rw (not-refused, passed) (front (claims (relation_of R) (elements w) (verifier_draws (relation_of R) (elements w) t)) (drop (claim_words R) c)
+      (claim_words R) claims-size)
 
   pub returned : elements (take (claim_words R) (verify_outcome R x w t c s).claims)
       ≡ claims (relation_of R) (elements w) (verifier_draws (relation_of R) (elements w) t)

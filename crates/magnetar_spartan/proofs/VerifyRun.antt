@@ -21,7 +21,7 @@ use Rattle.magnetar_schedule.specs.Schedule.{schedule}
 use Rattle.magnetar_schedule.specs.ScheduleRun.{run_from}
 use Rattle.magnetar_prover.specs.Entries.{play_refusal, play_answer, play_draws}
 use Rattle.magnetar_schedule.specs.RealRun.{verifier_draws, verifier_transcript}
-use Rattle.magnetar_protocol.specs.declared.first.Found.{Found}
+use Rattle.magnetar_protocol.specs.Found.{Found}
 use Rattle.magnetar_protocol.specs.Found.{first_found}
 use Rattle.magnetar_schedule.proofs.Blocks.{claims-outlined}
 use Rattle.magnetar_schedule.proofs.Counts.{verifier-count}
@@ -38,7 +38,8 @@ use Rattle.magnetar_spartan.specs.Stages.{drawn_words, run_to, outer_at, end_at,
 use Rattle.magnetar_spartan.proofs.Ended.{draws-small}
 use Rattle.magnetar_spartan.proofs.PassedTests.{first-refusal-none, same-passes, most-passes, true-passes}
 use Rattle.magnetar_spartan.proofs.SizedRules.{outline-passes}
-use Rattle.magnetar_spartan.proofs.Verifying.{sizes-are, draws-is, schedule-small, outer-is, later-is, outer_of, later_of, after, answer-outer, answer-later, answer-none}
+use Rattle.magnetar_spartan.proofs.Verifying.{sizes-are, draws-is, schedule-small, outer-is, later-is, outer_of, later_of, after, answer-outer}
+use Rattle.magnetar_spartan.proofs.Verifying.{answer-later, answer-none}
 
 -- a run with the public words x, the proof's words w and the transcript t
 module _ (R : Rules) (P : ValidRules R) (x w : List ℕ) (t : Transcript) (proof : length w ≡ proof_words R) (counter : t.squeeze_ctr < 2 ^ 32) where
@@ -103,7 +104,8 @@ module _ (R : Rules) (P : ValidRules R) (x w : List ℕ) (t : Transcript) (proof
   -- ---- the later checks, with the value v of the table, p of the public half, and claims c
   module _ (c : List ℕ) (v p : ℕ) (hc : claim_words R ≤ length c)
       (table : F.code ≡ 0 → v ≡ mle (combined (relation_of R) (draws_of (relation_of R) D)) (draws_of (relation_of R) D).inner)
-      (half : F.code ≡ 0 → p ≡ mle (public_folded R.q (R.m / 2) (columns_of R x) (login_point (draws_of (relation_of R) D))) (low_point (relation_of R) (draws_of (relation_of R) D))) where
+      (half : F.code ≡ 0 → p ≡ mle (public_folded R.q (R.m / 2) (columns_of R x) (login_point (draws_of (relation_of R) D)))
+      (low_point (relation_of R) (draws_of (relation_of R) D))) where
     abbrev G : Found
     G = end_at o w d v p
 
@@ -121,7 +123,8 @@ module _ (R : Rules) (P : ValidRules R) (x w : List ℕ) (t : Transcript) (proof
 
     claims-is : claims o (elements w) (elements d) ≡ claims (relation_of R) (elements w) D
     claims-is =
-        ap (claims o (elements w)) els ∙ ap (λ (r : Relation). claims r (elements w) D) (sym (sizes-are R)) ∙ sym (claims-outlined (relation_of R) (elements w) D)
+        ap (claims o (elements w)) els ∙ ap (λ (r : Relation). claims r (elements w) D) (sym (sizes-are R))
+        ∙ sym (claims-outlined (relation_of R) (elements w) D)
 
     -- ---- what is left: the number, the transcript and the claims
     abbrev pub Left : Concluded → Type 0

@@ -17,12 +17,14 @@ use Rattle.magnetar_protocol.specs.Proof.{inner_rounds, value_z, terminals, segm
 use Rattle.magnetar_protocol.specs.Draws.{Draws, draws_of, draw_count, login_point, low_point, top_element}
 use Rattle.magnetar_schedule.specs.Schedule.{Event, schedule}
 use Rattle.magnetar_schedule.specs.ScheduleRun.{RunState, run_from}
-use Rattle.magnetar_protocol.specs.Checks.{Check, first_failure, first_stop, shared_checks, row_checks, terminal_checks, inner_checks, identity_check, inner_claim, combined}
+use Rattle.magnetar_protocol.specs.Checks.{Check, first_failure, first_stop, shared_checks, row_checks, terminal_checks, inner_checks, identity_check}
+use Rattle.magnetar_protocol.specs.Checks.{inner_claim, combined}
 use Rattle.magnetar_protocol.specs.Run.{verdict}
 use Rattle.magnetar_schedule.specs.RealRun.{verifier_draws, verifier_transcript, stop}
 use Rattle.magnetar_protocol.proofs.Phases.{Numbered}
 use Rattle.magnetar_schedule.proofs.Counts.{played-count, schedule-length}
-use Rattle.magnetar_schedule.proofs.Blocks.{outer_checks, later_checks, later-numbered, verdict-blocks, run-stop-blocks, stop-append, stop-accepted, outlined, schedule-outlined, draws-outlined, shared-outlined, rows-outlined, terminals-outlined}
+use Rattle.magnetar_schedule.proofs.Blocks.{outer_checks, later_checks, later-numbered, verdict-blocks, run-stop-blocks, stop-append, stop-accepted}
+use Rattle.magnetar_schedule.proofs.Blocks.{outlined, schedule-outlined, draws-outlined, shared-outlined, rows-outlined, terminals-outlined}
 use Rattle.magnetar_verifier.specs.End.{end_checks}
 use Rattle.magnetar_relation.specs.Rules.{Rules, relation_of}
 use Rattle.magnetar_field.proofs.Log2.{log₂-lt}
@@ -60,7 +62,8 @@ module _ (R : Rules) (w : List ℕ) (t : Transcript) where
 
 -- ---- the outer checks
 module _ (R : Rules) (x : PublicColumns) (w : List ℕ) (D : Draws) where
-  pub outer-is : shared_checks (sizes_only_of R) w D 0 (log_logins (sizes_only_of R)) ++ (row_checks (sizes_only_of R) w D ++ terminal_checks (sizes_only_of R) w D)
+  pub outer-is : shared_checks (sizes_only_of R) w D 0 (log_logins (sizes_only_of R)) ++
+      (row_checks (sizes_only_of R) w D ++ terminal_checks (sizes_only_of R) w D)
       ≡ outer_checks (relation_of R) x w D
   outer-is =
       outlines (λ (r : Relation). shared_checks r w D 0 (log_logins r) ++ (row_checks r w D ++ terminal_checks r w D))
@@ -143,7 +146,8 @@ unfolding end_checks inner_claim inner_rounds value_z terminals low_point top_el
 end-outlined r w D v p = refl
 
 pub later-is : (R : Rules) (x : PublicColumns) (w : List ℕ) (D : Draws) (v p : ℕ) → v ≡ mle (combined (relation_of R) D) D.inner
-    → p ≡ mle (public_folded R.q (R.m / 2) x (login_point D)) (low_point (relation_of R) D) → end_checks (sizes_only_of R) w D v p ≡ later_checks (relation_of R) x w D
+    → p ≡ mle (public_folded R.q (R.m / 2) x (login_point D)) (low_point (relation_of R) D)
+    → end_checks (sizes_only_of R) w D v p ≡ later_checks (relation_of R) x w D
 unfolding end_checks inner_checks identity_check
 later-is R x w D v p ev ep =
     ap (λ (r : Relation). end_checks r w D v p) (sym (sizes-are R)) ∙ (sym (end-outlined (relation_of R) w D v p) ∙ ap₂ (end_checks (relation_of R) w D) ev ep)

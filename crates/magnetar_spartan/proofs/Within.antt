@@ -24,7 +24,8 @@ use Rattle.magnetar_relation.specs.declared.shapes.SystemShape.{SystemShape}
 use Rattle.magnetar_relation.specs.Rules.{Rules, rules_over, entries_in, matrix_at, system_at, relation_of, lies_in, in_matrix, in_system, in_relation}
 use Rattle.magnetar_relation.specs.RuleTests.{row_tests, col_tests, most_tests, number_tests, total, rule_tests_by, rule_tests}
 use Rattle.magnetar_protocol.specs.RunTests.{counter_tests, proof_tests}
-use Rattle.magnetar_spartan.specs.Refusals.{rules_tests, proof_words, claim_words, verifier_scratch_of, prover_scratch_of, verify_tests, prove_tests, sizes_only_of}
+use Rattle.magnetar_spartan.specs.Refusals.{rules_tests, proof_words, claim_words, verifier_scratch_of, prover_scratch_of, verify_tests, prove_tests}
+use Rattle.magnetar_spartan.specs.Refusals.{sizes_only_of}
 use Rattle.magnetar_spartan.specs.Outcome.{verify_refusal, prove_refusal}
 use Rattle.magnetar_spartan.specs.Within.{Power, no_entry, MatrixWithin, SystemWithin, RulesWithin, ProveWithin, ProveUnrefused, VerifyUnrefused}
 use Rattle.magnetar_spartan.proofs.PassedTests.{first-refusal-none, clear-join, size-passes, same-passes, most-passes, true-passes}
@@ -132,7 +133,8 @@ unfolding prove_refusal login_words
 prove-unrefused R ws x t w c s W =
     let n = t.squeeze_ctr in
     let r = W.rules in
-    let rest : Tests = counter_tests n ++ (room_test_of (proof_words R) (length w) ++ (room_test_of (claim_words R) (length c) ++ room_test_of (prover_scratch_of R) (length s))) in
+    let rest : Tests = counter_tests n ++ (room_test_of (proof_words R) (length w) ++
+    (room_test_of (claim_words R) (length c) ++ room_test_of (prover_scratch_of R) (length s))) in
     let proof : proof_words R ≤ length w = omega (arith, W.proof) in
     let last : Clear rest = (counter-passes n W.counter, (le-ltb _ _ proof, (le-ltb _ _ W.claims, (le-ltb _ _ W.scratch, tt)))) in
     first-refusal-none (prove_tests R ws x n (length w) (length c) (length s)) (
@@ -145,7 +147,8 @@ unfolding verify_refusal
 verify-unrefused-within R x w t c s W =
     let n = t.squeeze_ctr in
     let r = W.rules in
-    let rest : Tests = counter_tests n ++ (room_test_of (claim_words R) (length c) ++ (room_test_of (verifier_scratch_of R) (length s) ++ proof_tests (sizes_only_of R) w)) in
+    let rest : Tests = counter_tests n ++ (room_test_of (claim_words R) (length c) ++
+    (room_test_of (verifier_scratch_of R) (length s) ++ proof_tests (sizes_only_of R) w)) in
     let proof : length w ≡ proof_words R = omega (arith, W.proof) in
     let last : Clear rest = (counter-passes n W.counter, (le-ltb _ _ W.claims, (le-ltb _ _ W.scratch, (same-passes _ _ proof, tt)))) in
     first-refusal-none (verify_tests R x w n (length c) (length s))

@@ -4,8 +4,9 @@
 use Rattle.std.specs.Prelude.{List, ◌++◌, ℕ, ◌/◌, length, drop, replicate}
 use Rattle.magnetar_field.specs.Refusal.{unless_refused}
 use Rattle.magnetar_field.specs.Words.{elements, words}
+use Rattle.magnetar_field.specs.Number.{number_of}
 use Rattle.magnetar_hash.specs.declared.transcript.Transcript.{Transcript}
-use Rattle.magnetar_hash.specs.declared.transcript.TranscriptAnswer.{TranscriptAnswer}
+use Rattle.magnetar_hash.specs.Transcript.{TranscriptAnswer}
 use Rattle.magnetar_layout.specs.Tests.{first_refusal}
 use Rattle.magnetar_matrix.specs.Batch.{Batch, PublicColumns}
 use Rattle.magnetar_matrix.specs.Packed.{unpacked, public_of}
@@ -13,6 +14,7 @@ use Rattle.magnetar_protocol.specs.Run.{verdict, claims}
 use Rattle.magnetar_protocol.specs.Prover.{prover_proof, prover_claims}
 use Rattle.magnetar_schedule.specs.RealRun.{verifier_draws, verifier_transcript, prover_draws, prover_transcript}
 use Rattle.magnetar_relation.specs.Rules.{Rules, relation_of}
+use Rattle.magnetar_spartan.specs.declared.virtual_spartan.Verified.{Verified as Returned}
 use Rattle.magnetar_spartan.specs.Refusals.{verify_tests, prove_tests, proof_words, claim_words, verifier_scratch_of, prover_scratch_of}
 
 -- the batch that the packed words hold
@@ -31,7 +33,11 @@ pub record Verified : Type 0 where
   pub claims : List ℕ
   pub scratch : List ℕ
 
--- the same of what the function returns
+-- what the function returns, as an answer
+abbrev pub answered : Returned → TranscriptAnswer
+answered v = record { code = number_of v.outcome; transcript = v.transcript }
+
+-- the same of such an answer
 abbrev pub verified : TranscriptAnswer → List ℕ → List ℕ → Verified
 verified a c s = record { code = a.code; transcript = a.transcript; claims = c; scratch = s }
 
@@ -73,7 +79,7 @@ pub record Proved : Type 0 where
   pub claims : List ℕ
   pub scratch : List ℕ
 
--- the same of what the function returns
+-- the same of what the function returns, as an answer
 abbrev pub proved : TranscriptAnswer → List ℕ → List ℕ → List ℕ → Proved
 proved a w c s = record { code = a.code; transcript = a.transcript; proof = w; claims = c; scratch = s }
 

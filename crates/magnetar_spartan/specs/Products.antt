@@ -1,7 +1,7 @@
 -- The products of the six matrices and the z of every login, in the blocks of the outer sum-check: four tables for bin, then four for fld,
 -- of which the first is free and the others are those of A, B and C. Only private contracts cite these definitions.
 -- Assumes nothing.
-use Rattle.std.specs.Prelude.{◌≡◌, cond, ◌&&◌, List, ◌++◌, ℕ, ◌+◌, ◌-◌, ◌*◌, ◌/◌, ◌≤◌, min, ltb, leb, length, take, drop}
+use Rattle.std.specs.Prelude.{◌≡◌, cond, List, ℕ, ◌+◌, ◌-◌, ◌*◌, ◌/◌, ◌≤◌, min, ltb, length, take, drop}
 use Rattle.magnetar_layout.specs.Login.{login_words}
 use Rattle.magnetar_layout.specs.Tests.{Sized, most_columns, most_logins, most_rows}
 use Rattle.magnetar_matrix.specs.Matrix.{Matrix, System}
@@ -65,10 +65,6 @@ abbrev pub table_of : Rules → (ws x : List ℕ) → Matrix → List ℕ
 table_of R ws x a = packed_table a ws x R.q (R.m / 2)
 
 -- ---- one table
--- the first n words copied to place p; nothing where there is no room for both
-unfoldable pub copied : (p n : ℕ) → List ℕ → List ℕ
-copied p n s = cond (leb n p && leb (p + n) (length s)) (take p s ++ (take n s ++ drop n (drop p s))) s
-
 -- s' is s with the table t of n words at place p; the first n words are free
 pub record Placed (n p : ℕ) (t s s' : List ℕ) : Type 0 where
   pub long : length s' ≡ length s

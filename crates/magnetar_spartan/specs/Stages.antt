@@ -7,7 +7,7 @@ use Rattle.magnetar_field.specs.Sizes.{log₂}
 use Rattle.magnetar_field.specs.Tabulate.{tabulate}
 use Rattle.magnetar_field.specs.Words.{elements, words}
 use Rattle.magnetar_hash.specs.declared.transcript.Transcript.{Transcript}
-use Rattle.magnetar_hash.specs.declared.transcript.TranscriptAnswer.{TranscriptAnswer}
+use Rattle.magnetar_hash.specs.Transcript.{TranscriptAnswer}
 use Rattle.magnetar_multilinear.specs.Multilinear.{mle}
 use Rattle.magnetar_matrix.specs.Batch.{Relation, public_folded}
 use Rattle.magnetar_matrix.specs.Packed.{public_of}
@@ -15,14 +15,15 @@ use Rattle.magnetar_batch.specs.Entries.{public_in_refusal}
 use Rattle.magnetar_batch.specs.TableSteps.{point_in}
 use Rattle.magnetar_protocol.specs.Draws.{draw_count}
 use Rattle.magnetar_prover.specs.Entries.{play_answer, play_draws}
-use Rattle.magnetar_protocol.specs.declared.first.Found.{Found}
+use Rattle.magnetar_protocol.specs.Found.{Found}
 use Rattle.magnetar_verifier.specs.Outer.{outer_found}
 use Rattle.magnetar_verifier.specs.End.{end_found}
 use Rattle.magnetar_verifier.specs.Claims.{claims_out}
 use Rattle.magnetar_relation.specs.Steps.{cleared_to}
-use Rattle.magnetar_spartan.specs.declared.stages.OuterStage.{OuterStage}
+use Rattle.magnetar_relation.specs.Rules.{Rules}
+use Rattle.magnetar_spartan.specs.Refusals.{rows_bin, rows_fld, sizes_only_of}
 use Rattle.magnetar_spartan.specs.Proving.{login_at}
-use Rattle.magnetar_spartan.specs.Table.{inner_at, window}
+use Rattle.magnetar_spartan.specs.Table.{inner_at, window, table_value, value_left}
 
 -- the words of the draws, in front of 256 words
 abbrev pub drawn_words : Relation → (w : List ℕ) → Transcript → List ℕ
@@ -48,14 +49,6 @@ end_at o w d v p = end_found o.m o.q o.bin.a.rows o.fld.a.rows o.lengths w d v p
 -- the claims, over c
 abbrev pub claims_at : Relation → (w d c : List ℕ) → List ℕ
 claims_at o w d c = claims_out o.m o.q o.bin.a.rows o.fld.a.rows o.lengths w d c
-
--- ---- the first stage: the schedule is played, and the outer checks look at the draws
-abbrev pub outer_stage : Relation → (w : List ℕ) → Transcript → OuterStage
-outer_stage o w t = record {
-  draws = drawn_words o w t;
-  ended = run_to o w t 65536;
-  found = outer_at o w (drawn_of o (drawn_words o w t));
-}
 
 -- ---- the public half, folded at the point of the logins and taken at the low point, by m + q elements of the room s
 -- n draws from place k of the words d on, the last one first
@@ -85,7 +78,28 @@ half_value m q b f x d s = public_value m q x (login_words_at q b f d) (window 3
 abbrev pub half_left : (m q b f : ℕ) → (x d s : List ℕ) → List ℕ
 half_left m q b f x d s = public_left m q x (login_words_at q b f d) s
 
--- ---- the last stage
+-- ---- the checks, with the words d of the draws and the room s
+-- the finding f, or l where f is none
+abbrev pub first_of : Found → Found → Found
+first_of f l = cond (eqb f.code 0) l f
+
+-- of the public words x: the public half, behind the value of the combined table
+abbrev pub half_at : Rules → (x d s : List ℕ) → ℕ
+half_at R x d s = half_value R.m R.q (rows_bin R) (rows_fld R) x d (value_left R d s)
+
+-- the first check that does not pass
+abbrev pub checked : Rules → (x w d s : List ℕ) → Found
+checked R x w d s =
+    let o = sizes_only_of R in
+    first_of (outer_at o w (drawn_of o d)) (end_at o w (drawn_of o d) (table_value R d s) (half_at R x d s))
+
+-- what is left of s: nothing is written where an outer check does not pass
+abbrev pub checks_left : Rules → (x w d s : List ℕ) → List ℕ
+checks_left R x w d s =
+    let o = sizes_only_of R in
+    cond (eqb (outer_at o w (drawn_of o d)).code 0) (half_left R.m R.q (rows_bin R) (rows_fld R) x d (value_left R d s)) s
+
+-- ---- the end of a run
 -- the number, the transcript, and what the claims buffer holds
 pub record Concluded : Type 0 where
   pub code : ℕ
@@ -96,10 +110,6 @@ pub record Concluded : Type 0 where
 abbrev pub concluded : TranscriptAnswer → List ℕ → Concluded
 concluded a c = record { code = a.code; transcript = a.transcript; claims = c }
 
--- the finding f, or l where f is none
-abbrev pub first_of : Found → Found → Found
-first_of f l = cond (eqb f.code 0) l f
-
 -- what is left where g is the first check that does not pass, u being the transcript at the end
 abbrev pub stopped_at : Relation → (w d : List ℕ) → (t u : Transcript) → Found → (c : List ℕ) → Concluded
 stopped_at o w d t u g c = record {
@@ -107,16 +117,3 @@ stopped_at o w d t u g c = record {
   transcript = cond (eqb g.code 0) u (run_to o w t g.events);
   claims = cond (eqb g.code 0) (claims_at o w d c) c;
 }
-
--- from what the first stage gave and both values
-abbrev pub checked_at : Relation → (w : List ℕ) → Transcript → OuterStage → (v p : ℕ) → (c : List ℕ) → Concluded
-checked_at o w t g v p c =
-    let d = drawn_of o g.draws in
-    stopped_at o w d t g.ended (first_of g.found (end_at o w d v p)) c
-
--- ---- both, unless n is a refusal: then nothing is begun, and nothing changes
-unfoldable pub outer_stage_unless : ℕ → Relation → (w : List ℕ) → Transcript → OuterStage
-outer_stage_unless n o w t = cond (eqb n 0) (outer_stage o w t) (record { draws = replicate 256 0; ended = t; found = record { code = n; events = 0 } })
-
-unfoldable pub finished_unless : ℕ → Relation → (w : List ℕ) → Transcript → OuterStage → (v p : ℕ) → (c : List ℕ) → Concluded
-finished_unless n o w t g v p c = cond (eqb n 0) (checked_at o w t g v p c) (record { code = n; transcript = t; claims = c })

@@ -2,124 +2,83 @@
 // verifier; sh are the shapes of the matrices.
 ghost use Rattle.std.specs.Prelude.{◌≡◌, [], ◌≤◌};
 ghost use Rattle.magnetar_field.specs.Gf128.{value};
-ghost use Rattle.magnetar_relation.specs.Rules.{rules, relation_of};
-ghost use Rattle.magnetar_spartan.specs.Table.{bin_at, fld_at, alphas_at, inner_at, window, table_at, table_value, value_left};
+ghost use Rattle.magnetar_relation.specs.Rules.{relation_of};
+ghost use Rattle.magnetar_relation.specs.Rules.{rules_by};
+ghost use Rattle.magnetar_spartan.specs.Table.{inner_at, window, points_at, table_at, table_value, value_left};
 
 use magnetar_batch::{combo, eval};
-use magnetar_field::gf128::Gf128;
-use magnetar_field::{sizes, words};
+use magnetar_field::gf128::{Gf128, ZERO};
+use magnetar_matrix::entries::Entries;
+use magnetar_protocol::rounds::Rounds;
 use magnetar_relation::shapes::Shapes;
 
-// Where the row point of bin stands among the words of the draws.
-fn bin_at(q: usize, sh: Shapes) -> usize
-    ensures { (result ≡ bin_at q sh.bin.a.rows sh.fld.a.rows) × (result ≤ 1000) }
+// N words from word k on; the last N where there are fewer.
+pub(crate) fn window<const N: usize>(k: usize, d: &[u64; 256]) -> [u64; N]
+    requires { N ≤ 256 }
+    ensures { result ≡ window N k d.now }
 {
-    let l = sizes::log2(q);
-    let b = sizes::log2(sh.bin.a.rows);
-    let f = sizes::log2(sh.fld.a.rows);
-    2 * (l + b + (l + f) + l)
-}
-
-// Where that of fld stands.
-fn fld_at(q: usize, sh: Shapes) -> usize
-    ensures { (result ≡ fld_at q sh.bin.a.rows sh.fld.a.rows) × (result ≤ 1200) }
-{
-    bin_at(q, sh) + 2 * sizes::log2(sh.bin.a.rows)
-}
-
-// Where the alphas stand.
-fn alphas_at(q: usize, sh: Shapes) -> usize
-    ensures { (result ≡ alphas_at q sh.bin.a.rows sh.fld.a.rows) × (result ≤ 1400) }
-{
-    fld_at(q, sh) + 2 * sizes::log2(sh.fld.a.rows)
-}
-
-// 32 words from word k on.
-fn window32(k: usize, d: [u64; 256]) -> [u64; 32]
-    ensures { result ≡ window 32 k d }
-{
-    let a = sizes::least(k, 224);
-    let e = a + 32;
-    let mut p = [0u64; 32];
-    words::copy(&d[a..e], &mut p);
+    let a = k.min(256 - N);
+    let mut p = [0u64; N];
+    p.copy_from_slice(&d[a..a + N]);
     p
 }
 
-// The row point of bin, and what comes behind it.
-pub(crate) fn bin_point(q: usize, sh: Shapes, d: [u64; 256]) -> [u64; 32]
-    ensures { result ≡ window 32 (bin_at q sh.bin.a.rows sh.fld.a.rows) d }
-{
-    let k = bin_at(q, sh);
-    window32(k, d)
+// The alphas and the row points of bin and fld, and what comes behind each point.
+#[derive(Clone, Copy)]
+struct Points {
+    alphas: [u64; 12],
+    bin: [u64; 32],
+    fld: [u64; 32],
 }
 
-// The row point of fld, and what comes behind it.
-pub(crate) fn fld_point(q: usize, sh: Shapes, d: [u64; 256]) -> [u64; 32]
-    ensures { result ≡ window 32 (fld_at q sh.bin.a.rows sh.fld.a.rows) d }
+// Those among the words d of the draws.
+fn points_among(m: usize, q: usize, sh: Shapes, d: &[u64; 256]) -> Points
+    ensures { result ≡ points_at q sh.bin.a.rows sh.fld.a.rows d.now }
 {
-    let k = fld_at(q, sh);
-    window32(k, d)
-}
-
-// The alphas.
-pub(crate) fn run_alphas(q: usize, sh: Shapes, d: [u64; 256]) -> [u64; 12]
-    ensures { result ≡ window 12 (alphas_at q sh.bin.a.rows sh.fld.a.rows) d }
-{
-    let k = alphas_at(q, sh);
-    let a = sizes::least(k, 244);
-    let e = a + 12;
-    let mut al = [0u64; 12];
-    words::copy(&d[a..e], &mut al);
-    al
+    let rounds = Rounds::of(m, q, sh.bin.a.rows, sh.fld.a.rows);
+    let place = rounds.taus() + rounds.shared;
+    Points {
+        alphas: window(2 * rounds.alphas(), d),
+        bin: window(2 * place, d),
+        fld: window(2 * (place + rounds.bin), d),
+    }
 }
 
 // The inner point, and what comes behind it.
-pub(crate) fn inner_point(q: usize, sh: Shapes, d: [u64; 256]) -> [u64; 32]
-    ensures { result ≡ window 32 (inner_at q sh.bin.a.rows sh.fld.a.rows) d }
+pub(crate) fn inner_point(m: usize, q: usize, sh: Shapes, d: &[u64; 256]) -> [u64; 32]
+    ensures { result ≡ window 32 (inner_at q sh.bin.a.rows sh.fld.a.rows) d.now }
 {
-    let k = alphas_at(q, sh) + 12;
-    window32(k, d)
+    let rounds = Rounds::of(m, q, sh.bin.a.rows, sh.fld.a.rows);
+    window(2 * (rounds.alphas() + 6), d)
 }
 
 // The combined table in front of s.
-pub(crate) fn combine_at(
+pub(crate) fn combine_at<E: Entries>(
     s: &mut [u64],
     m: usize,
     q: usize,
     sh: Shapes,
-    d: [u64; 256],
-    row: &[usize],
-    col: &[usize],
-    lo: &[u64],
-    hi: &[u64],
+    d: &[u64; 256],
+    es: &E,
 )
-    ensures { s.new ≡ table_at (relation_of (rules m q [] sh row.now col.now lo.now hi.now)) d s.old }
+    ensures { s.new ≡ table_at (relation_of (rules_by m q [] sh (E.numbers es.now))) d.now s.old }
 {
-    let al = run_alphas(q, sh, d);
-    let pb = bin_point(q, sh, d);
-    let pf = fld_point(q, sh, d);
-    combo::combine(s, m, sh, al, pb, pf, row, col, lo, hi);
+    let p = points_among(m, q, sh, d);
+    combo::combine(s, m, sh, p.alphas, p.bin, p.fld, es);
 }
 
-// The value of the combined table at the inner point, unless n is a refusal or a check that stops the run; then it is 0.
-pub(crate) fn value_at(
-    n: u32,
+// The value of the combined table at the inner point; 0 where the shapes or the room are refused.
+pub(crate) fn value_at<E: Entries>(
     s: &mut [u64],
     m: usize,
     q: usize,
     sh: Shapes,
-    d: [u64; 256],
-    row: &[usize],
-    col: &[usize],
-    lo: &[u64],
-    hi: &[u64],
+    d: &[u64; 256],
+    es: &E,
 ) -> Gf128
-    ensures { let R = rules m q [] sh row.now col.now lo.now hi.now in (value result ≡ table_value n R d s.old) × (s.new ≡ value_left n R d s.old) }
+    ensures { let R = rules_by m q [] sh (E.numbers es.now) in (value result ≡ table_value R d.now s.old) × (s.new ≡ value_left R d.now s.old) }
 {
-    let al = run_alphas(q, sh, d);
-    let pb = bin_point(q, sh, d);
-    let pf = fld_point(q, sh, d);
-    let y = inner_point(q, sh, d);
-    let r = eval::eval_m_combo(n, s, m, sh, al, pb, pf, y, row, col, lo, hi);
-    r.value
+    let p = points_among(m, q, sh, d);
+    let y = inner_point(m, q, sh, d);
+    eval::eval_m_combo(s, m, sh, p.alphas, p.bin, p.fld, y, es).unwrap_or(ZERO)
 }

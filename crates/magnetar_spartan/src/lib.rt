@@ -2,9 +2,9 @@
 #![tactic(auto)]
 
 mod combine;
+pub mod in_place;
 mod products;
 mod proving;
-pub mod records;
 mod refusal;
 mod stages;
 pub mod virtual_spartan;

@@ -1,98 +1,62 @@
-// The refusals 1 to 16 of both ends by numbers, each as a number: an earlier number stays. z is the number that 4 to 7 gave or 0, rb and rf
-// are the row counts of bin and fld; x, proof, packed, claims and scratch are numbers of words, n is the transcript's counter.
-ghost use Rattle.std.specs.Prelude.{◌≡◌, [], ◌+◌, ◌-◌, ◌*◌, ◌/◌, ◌≤◌, length};
-ghost use Rattle.magnetar_field.specs.Sizes.{log₂};
-ghost use Rattle.magnetar_layout.specs.Tests.{first_refusal, size_tests, layout_tests, Sized};
-ghost use Rattle.magnetar_protocol.specs.Shape.{proof_total, sizes_only};
-ghost use Rattle.magnetar_protocol.specs.Draws.{draw_count};
-ghost use Rattle.magnetar_protocol.specs.RunTests.{counter_tests};
-ghost use Rattle.magnetar_spartan.specs.Numbers.{verify_lent_tests, prove_lent_tests, verify_tests_by, prove_tests_by};
+// The refusals 1 to 16 of both ends, in rising order.
+ghost use Rattle.std.specs.Prelude.{◌≡◌, ◌++◌};
+ghost use Rattle.magnetar_field.specs.Number.{number_of};
+ghost use Rattle.magnetar_layout.specs.Tests.{first_refusal, size_tests, public_tests_of};
+ghost use Rattle.magnetar_protocol.specs.Shape.{sizes_only};
+ghost use Rattle.magnetar_relation.specs.Rules.{rules_by};
+ghost use Rattle.magnetar_spartan.specs.Refusals.{rules_tests};
+ghost use Rattle.magnetar_spartan.specs.Numbers.{verify_lent_tests, prove_lent_tests, Outlined};
+ghost use Rattle.magnetar_spartan.specs.Outcome.{verify_refusal, prove_refusal};
 
-use magnetar_field::sizes;
-use magnetar_layout::{layout, tests};
-use magnetar_protocol::scratch;
+use magnetar_field::refusal::{Refusal, require};
+use magnetar_hash::transcript::Transcript;
+use magnetar_layout::layout;
+use magnetar_matrix::entries::Entries;
+use magnetar_protocol::refusal::size_refusal;
+use magnetar_protocol::rounds::Rounds;
+use magnetar_protocol::scratch::{prover_scratch, verifier_scratch};
 use magnetar_r1cs::r1cs;
+use magnetar_relation::rules;
+use magnetar_relation::shapes::Shapes;
 
-// 1: the columns and the logins.
-fn size_refusal(m: usize, q: usize) -> u32
-    ensures { result ≡ first_refusal 0 (size_tests m q) }
+// 3 to 10, of so many public words x: these, the rules, and the segments over the witness columns.
+fn relation<E: Entries>(
+    m: usize,
+    q: usize,
+    lens: &[usize],
+    sh: Shapes,
+    es: &E,
+    x: usize,
+) -> Result<(), Refusal>
+    requires { first_refusal 0 (size_tests m q) ≡ 0 }
+    ensures { number_of result ≡ first_refusal 0 (public_tests_of m q x ++ rules_tests (rules_by m q lens.now sh (E.numbers es.now))) }
 {
-    let z = tests::refuse(0, 1, !tests::is_size(2, 65536, m));
-    tests::refuse(z, 1, !tests::is_size(1, 4096, q))
-}
-
-// 8 to 10 after an earlier number y: the segments over the witness columns.
-fn segments(y: u32, m: usize, lens: &[usize]) -> u32
-    requires { Sized 2 65536 m }
-    ensures { result ≡ first_refusal y (layout_tests (m / 2) lens.now) }
-{
-    if y != 0 {
-        return y;
-    }
+    require(x == q * (m - 2), Refusal::PublicWords)?;
+    rules::check(m, q, sh, es)?;
     layout::refusal(m / 2, lens)
 }
 
-// How many words a proof has, with l segments.
-pub(crate) fn proof_words(m: usize, q: usize, rb: usize, rf: usize, l: usize) -> usize
-    requires { l ≤ 64 }
-    ensures { result ≡ 2 * proof_total (log₂ q) (log₂ rb) (log₂ rf) (log₂ m) l }
-{
-    let s = sizes::log2(q);
-    let b = sizes::log2(rb);
-    let f = sizes::log2(rf);
-    let n = sizes::log2(m);
-    2 * (8 * s + 4 * b + 4 * f + 6 + 3 * n + 1 + l)
-}
-
-// How many words the draws of a run have.
-pub(crate) fn draw_words(m: usize, q: usize, rb: usize, rf: usize) -> usize
-    ensures { result ≡ 2 * draw_count (sizes_only m q rb rf []) }
-{
-    let s = sizes::log2(q);
-    let b = sizes::log2(rb);
-    let f = sizes::log2(rf);
-    let n = sizes::log2(m);
-    2 * (s + b + (s + f + (s + (b + (f + (6 + n))))))
-}
-
-// How many words the claims have.
-fn claim_words(m: usize, q: usize, l: usize) -> usize
-    requires { (1 ≤ log₂ m) × (l ≤ 64) }
-    ensures { result ≡ 2 * (log₂ q + (log₂ m - 1) + l) }
-{
-    let s = sizes::log2(q);
-    let n = sizes::log2(m);
-    2 * (s + (n - 1) + l)
-}
-
-// 14.
-fn counter(n: u64) -> u32
-    ensures { result ≡ first_refusal 0 (counter_tests n) }
-{
-    tests::refuse(0, 14, !(n < 0x100000000))
-}
-
-// 14, 15 and 16 of the verifier.
+// 14, 15 and 16 of the verifier, by numbers of words and the transcript's counter n.
 fn verify_lent(
     m: usize,
     q: usize,
     lens: &[usize],
-    rb: usize,
-    rf: usize,
+    sh: Shapes,
     proof: usize,
     n: u64,
     claims: usize,
-    lent: usize,
-) -> u32
-    requires { (1 ≤ log₂ m) × (length lens.now ≤ 64) }
-    ensures { result ≡ first_refusal 0 (verify_lent_tests (sizes_only m q rb rf lens.now) proof n claims lent) }
+    scratch: usize,
+) -> Result<(), Refusal>
+    requires { Outlined m q sh.bin.a.rows sh.fld.a.rows lens.now }
+    ensures { number_of result ≡ first_refusal 0 (verify_lent_tests (sizes_only m q sh.bin.a.rows sh.fld.a.rows lens.now) proof n claims scratch) }
 {
-    let l = lens.len();
-    let z = counter(n);
-    let z = tests::refuse(z, 15, claims < claim_words(m, q, l));
-    let s = scratch::verifier_scratch(m, q, rb, rf);
-    let z = tests::refuse(z, 15, lent < s.words);
-    tests::refuse(z, 16, proof != proof_words(m, q, rb, rf, l))
+    let rb = sh.bin.a.rows;
+    let rf = sh.fld.a.rows;
+    let rounds = Rounds::of(m, q, rb, rf);
+    require(n < 0x100000000, Refusal::Counter)?;
+    require(claims >= rounds.claim_words(lens.len()), Refusal::Room)?;
+    require(scratch >= verifier_scratch(m, q, rb, rf)?, Refusal::Room)?;
+    require(proof == rounds.proof_words(lens.len()), Refusal::ProofWords)
 }
 
 // 14 and 15 of the prover.
@@ -100,80 +64,83 @@ fn prove_lent(
     m: usize,
     q: usize,
     lens: &[usize],
-    rb: usize,
-    rf: usize,
+    sh: Shapes,
     n: u64,
     proof: usize,
     claims: usize,
-    lent: usize,
-) -> u32
-    requires { (1 ≤ log₂ m) × (length lens.now ≤ 64) }
-    ensures { result ≡ first_refusal 0 (prove_lent_tests (sizes_only m q rb rf lens.now) n proof claims lent) }
+    scratch: usize,
+) -> Result<(), Refusal>
+    requires { Outlined m q sh.bin.a.rows sh.fld.a.rows lens.now }
+    ensures { number_of result ≡ first_refusal 0 (prove_lent_tests (sizes_only m q sh.bin.a.rows sh.fld.a.rows lens.now) n proof claims scratch) }
 {
-    let l = lens.len();
-    let z = counter(n);
-    let z = tests::refuse(z, 15, proof < proof_words(m, q, rb, rf, l));
-    let z = tests::refuse(z, 15, claims < claim_words(m, q, l));
-    let s = scratch::prover_scratch(m, q, rb, rf);
-    tests::refuse(z, 15, lent < s.words)
+    let rb = sh.bin.a.rows;
+    let rf = sh.fld.a.rows;
+    let rounds = Rounds::of(m, q, rb, rf);
+    require(n < 0x100000000, Refusal::Counter)?;
+    require(proof >= rounds.proof_words(lens.len()), Refusal::Room)?;
+    require(claims >= rounds.claim_words(lens.len()), Refusal::Room)?;
+    require(scratch >= prover_scratch(m, q, rb, rf)?, Refusal::Room)
 }
 
 // Every refusal of the verifier but those of its checks.
-pub(crate) fn verify(
-    z: u32,
+pub(crate) fn verify<E: Entries>(
     m: usize,
     q: usize,
     lens: &[usize],
-    rb: usize,
-    rf: usize,
-    x: usize,
-    proof: usize,
-    n: u64,
-    claims: usize,
-    scratch: usize,
-) -> u32
-    ensures { result ≡ first_refusal 0 (verify_tests_by z (sizes_only m q rb rf lens.now) x proof n claims scratch) }
+    sh: Shapes,
+    es: &E,
+    x: &[u64],
+    proof: &[u64],
+    t: Transcript,
+    claims: &[u64],
+    scratch: &[u64],
+) -> Result<(), Refusal>
+    ensures { number_of result ≡ verify_refusal (rules_by m q lens.now sh (E.numbers es.now)) x.now proof.now t claims.now scratch.now }
 {
-    let y = size_refusal(m, q);
-    if y != 0 {
-        return y;
-    }
-    let y = tests::refuse(0, 3, x != q * (m - 2));
-    let y = tests::refuse(y, z, true);
-    let y = segments(y, m, lens);
-    if y != 0 {
-        return y;
-    }
-    verify_lent(m, q, lens, rb, rf, proof, n, claims, scratch)
+    size_refusal(m, q)?;
+    relation(m, q, lens, sh, es, x.len())?;
+    verify_lent(
+        m,
+        q,
+        lens,
+        sh,
+        proof.len(),
+        t.squeeze_ctr,
+        claims.len(),
+        scratch.len(),
+    )
 }
 
 // Every refusal of the prover.
-pub(crate) fn prove(
-    z: u32,
+pub(crate) fn prove<E: Entries>(
     m: usize,
     q: usize,
     lens: &[usize],
-    rb: usize,
-    rf: usize,
-    packed: usize,
-    x: usize,
-    n: u64,
-    proof: usize,
-    claims: usize,
-    scratch: usize,
-) -> u32
-    ensures { result ≡ first_refusal 0 (prove_tests_by z (sizes_only m q rb rf lens.now) packed x n proof claims scratch) }
+    sh: Shapes,
+    es: &E,
+    packed: &[u64],
+    x: &[u64],
+    t: Transcript,
+    proof: &[u64],
+    claims: &[u64],
+    scratch: &[u64],
+) -> Result<(), Refusal>
+    ensures { number_of result ≡ prove_refusal (rules_by m q lens.now sh (E.numbers es.now)) packed.now x.now t proof.now claims.now scratch.now }
 {
-    let y = size_refusal(m, q);
-    if y != 0 {
-        return y;
-    }
-    let y = tests::refuse(0, 2, packed != q * r1cs::login_words(m / 2));
-    let y = tests::refuse(y, 3, x != q * (m - 2));
-    let y = tests::refuse(y, z, true);
-    let y = segments(y, m, lens);
-    if y != 0 {
-        return y;
-    }
-    prove_lent(m, q, lens, rb, rf, n, proof, claims, scratch)
+    size_refusal(m, q)?;
+    require(
+        packed.len() == q * r1cs::login_words(m / 2),
+        Refusal::PackedWords,
+    )?;
+    relation(m, q, lens, sh, es, x.len())?;
+    prove_lent(
+        m,
+        q,
+        lens,
+        sh,
+        t.squeeze_ctr,
+        proof.len(),
+        claims.len(),
+        scratch.len(),
+    )
 }

@@ -1,18 +1,21 @@
-use mathlib.Core.Path.{◌≡◌, ap, ◌∙◌}
+use mathlib.Core.Path.{◌≡◌, refl, sym, ap, ◌∙◌}
 use mathlib.Core.List.{[]}
-use Rattle.magnetar_relation.specs.Rules.{Rules, rules}
-use Rattle.magnetar_batch.specs.Value.{CombinedAt, valued}
+use Rattle.magnetar_field.specs.declared.gf128.Gf128.{Gf128}
+use Rattle.magnetar_field.specs.Gf128.{value}
+use Rattle.magnetar_batch.specs.Value.{CombinedAt}
+use Rattle.magnetar_relation.specs.Rules.{Rules}
+use Rattle.magnetar_batch.specs.Value.{valued}
+use Rattle.magnetar_relation.specs.Rules.{rules_by}
 use Rattle.magnetar_spartan.specs.Table.{value_at}
+use Rattle.magnetar_spartan.proofs.StageLaws.{value_or, value_left}
 use Rattle.magnetar_spartan.proofs.combine.value_at.Goals as goal
 
 pub returns : goal.returns
-returns c =
+returns g c =
     let x = c.args in
-    let R : Rules = rules x.m x.q [] x.sh x.row.now x.col.now x.lo.now x.hi.now in
-    let e : valued c.eval_m_combo-r.result c.eval_m_combo-r.new.s ≡ value_at x.n R x.d x.s.now = c.eval_m_combo-r.ensures ∙ rw (
-      c.inner_point-y.ensures,
-      c.fld_point-pf.ensures,
-      c.bin_point-pb.ensures,
-      c.run_alphas-al.ensures,
-    ) in
-    (ap (λ (o : CombinedAt). o.value) e, ap (λ (o : CombinedAt). o.scratch) e)
+    let R : Rules = rules_by x.m x.q [] x.sh (g.E.Entries.numbers x.es.now) in
+    let r = c.eval_m_combo in
+    let e : valued r.result r.new.s ≡ value_at R x.d.now x.s.now = r.ensures ∙ rw (c.inner_point-y.ensures, c.points_among-p.ensures) in (
+      ap (λ (v : Gf128). value v) c.unwrap_or.ensures ∙ (value_or r.result r.new.s (record { lo = 0; hi = 0 }) refl ∙ ap (λ (o : CombinedAt). o.value) e),
+      sym (value_left r.result r.new.s) ∙ ap (λ (o : CombinedAt). o.scratch) e,
+    )

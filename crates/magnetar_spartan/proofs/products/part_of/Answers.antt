@@ -1,5 +1,4 @@
 use native.Mathlib.Omega.{arith}
-use Rattle.magnetar_relation.proofs.EndLaws.{bin-ends}
 use Rattle.magnetar_spartan.proofs.ProductLaws.{part-bin, part-fld}
 use Rattle.magnetar_spartan.proofs.products.part_of.Goals as goal
 
@@ -11,4 +10,4 @@ returns-then-k-lt4 c =
 pub returns : goal.returns
 returns c =
     let x = c.args in
-    part-fld x.k x.q x.sh x.h _ (omega arith) _ _ c.product_words-p.ensures.0 (bin-ends x.sh x.h _ c.ends_of.ensures) c.part_in-2.ensures
+    part-fld x.k x.q x.sh x.h _ (omega arith) _ _ c.product_words-p.ensures.0 (rw c.ends_of.ensures (omega arith)) c.part_in-2.ensures

@@ -1,5 +1,70 @@
+use mathlib.Core.List.{◌++◌}
+use Prim.Native.Nat.{◌*◌}
+use Rattle.magnetar_field.specs.declared.refusal.Refusal.TheVariants.{Counter, ProofWords}
+use Rattle.magnetar_layout.specs.Tests.{Tests, room_test_of}
+use Rattle.magnetar_matrix.specs.Batch.{Relation}
+use Rattle.magnetar_protocol.specs.RunTests.{counter_tests, proof_tests_of}
+use Rattle.magnetar_protocol.specs.Scratch.{verifier_scratch}
+use Rattle.magnetar_protocol.specs.Shape.{claim_count, sizes_only}
+use Rattle.magnetar_layout.proofs.Passing.{out-front, late, required}
+use Rattle.magnetar_spartan.proofs.Chains.{roomy, verifier-asks, verifier-asked, proof-is, claims-are}
 use Rattle.magnetar_spartan.proofs.refusal.verify_lent.Goals as goal
+
+pub claim_words-requires : goal.claim_words-requires
+claim_words-requires c = (c.of-rounds.ensures.few, c.requires.segments)
+
+pub proof_words-requires : goal.proof_words-requires
+proof_words-requires c = (c.of-rounds.ensures.few, c.requires.segments)
+
+pub returns-in_err-require : goal.returns-in_err-require
+returns-in_err-require c =
+    let x = c.args in
+    let o : Relation = sizes_only x.m x.q x.sh.bin.a.rows x.sh.fld.a.rows x.lens.now in
+    let C : Tests = room_test_of (2 * claim_count o) x.claims in
+    let S : Tests = room_test_of (verifier_scratch x.m x.q x.sh.bin.a.rows x.sh.fld.a.rows) x.scratch in
+    let W : Tests = proof_tests_of o x.proof in
+    out-front (counter_tests x.n) (C ++ (S ++ W)) _ _ c.from_residual.ensures.1 (rw c.in_err-require.was at (required _ _ Counter c.require.ensures))
+
+pub returns-in_err-require-2 : goal.returns-in_err-require-2
+returns-in_err-require-2 c =
+    let x = c.args in
+    let o : Relation = sizes_only x.m x.q x.sh.bin.a.rows x.sh.fld.a.rows x.lens.now in
+    let C : Tests = room_test_of (2 * claim_count o) x.claims in
+    let S : Tests = room_test_of (verifier_scratch x.m x.q x.sh.bin.a.rows x.sh.fld.a.rows) x.scratch in
+    let W : Tests = proof_tests_of o x.proof in
+    let few = claims-are x.m x.q x.sh.bin.a.rows x.sh.fld.a.rows x.lens.now _ _ c.of-rounds.ensures.rounds c.claim_words.ensures in
+    late (counter_tests x.n) (C ++ (S ++ W)) (rw c.in_ok-require.was at (required _ _ Counter c.require.ensures))
+    (out-front C (S ++ W) _ _ c.from_residual-in_err-require-2.ensures.1 (rw c.in_err-require-2.was at (roomy _ _ _ _ few c.require-2.ensures)))
+
+pub returns-in_err-verifier_scratch : goal.returns-in_err-verifier_scratch
+returns-in_err-verifier_scratch c =
+    let x = c.args in
+    absurd (verifier-asks x.m x.q x.sh.bin.a.rows x.sh.fld.a.rows c.requires.sizes _ c.in_err-verifier_scratch.ensures)
+
+pub returns-in_err-require-3 : goal.returns-in_err-require-3
+returns-in_err-require-3 c =
+    let x = c.args in
+    let o : Relation = sizes_only x.m x.q x.sh.bin.a.rows x.sh.fld.a.rows x.lens.now in
+    let C : Tests = room_test_of (2 * claim_count o) x.claims in
+    let S : Tests = room_test_of (verifier_scratch x.m x.q x.sh.bin.a.rows x.sh.fld.a.rows) x.scratch in
+    let W : Tests = proof_tests_of o x.proof in
+    let few = claims-are x.m x.q x.sh.bin.a.rows x.sh.fld.a.rows x.lens.now _ _ c.of-rounds.ensures.rounds c.claim_words.ensures in
+    late (counter_tests x.n) (C ++ (S ++ W)) (rw c.in_ok-require.was at (required _ _ Counter c.require.ensures))
+    (late C (S ++ W) (rw c.in_ok-require-2.was at (roomy _ _ _ _ few c.require-2.ensures))
+    (out-front S W _ _ c.from_residual-in_err-require-3.ensures.1 (rw c.in_err-require-3.was at
+    (roomy _ _ _ _ (verifier-asked x.m x.q x.sh.bin.a.rows x.sh.fld.a.rows c.requires.sizes _ c.in_ok-verifier_scratch.ensures) c.require-3.ensures))))
 
 pub returns : goal.returns
 returns c =
-    rw (c.refuse.ensures, c.proof_words.ensures, c.refuse-z-2.ensures, c.verifier_scratch-s.ensures, c.refuse-z.ensures, c.claim_words.ensures, c.counter-z.ensures)
+    let x = c.args in
+    let o : Relation = sizes_only x.m x.q x.sh.bin.a.rows x.sh.fld.a.rows x.lens.now in
+    let C : Tests = room_test_of (2 * claim_count o) x.claims in
+    let S : Tests = room_test_of (verifier_scratch x.m x.q x.sh.bin.a.rows x.sh.fld.a.rows) x.scratch in
+    let W : Tests = proof_tests_of o x.proof in
+    let few = claims-are x.m x.q x.sh.bin.a.rows x.sh.fld.a.rows x.lens.now _ _ c.of-rounds.ensures.rounds c.claim_words.ensures in
+    let sent = proof-is x.m x.q x.sh.bin.a.rows x.sh.fld.a.rows x.lens.now _ _ c.of-rounds.ensures.rounds c.proof_words.ensures in
+    late (counter_tests x.n) (C ++ (S ++ W)) (rw c.in_ok-require.was at (required _ _ Counter c.require.ensures))
+    (late C (S ++ W) (rw c.in_ok-require-2.was at (roomy _ _ _ _ few c.require-2.ensures))
+    (late S W (rw c.in_ok-require-3.was at (roomy _ _ _ _
+    (verifier-asked x.m x.q x.sh.bin.a.rows x.sh.fld.a.rows c.requires.sizes _ c.in_ok-verifier_scratch.ensures) c.require-3.ensures))
+    (rw sent at (required _ _ ProofWords c.require-4.ensures))))
