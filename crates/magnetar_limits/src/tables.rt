@@ -50,12 +50,16 @@ pub(crate) fn products(out: &mut Out, relation: &Relation, batch: Batch<'_>) -> 
     Ok(())
 }
 
-// The fold of the logins, two at a point of one element, one at a point of none.
+// The point that q logins are folded at: of one element for two, of none for one.
+fn point(words: &[u64], q: usize) -> &[u64] {
+    if q == 1 { &words[..0] } else { words }
+}
+
 pub(crate) fn fold(out: &mut Out, batch: Batch<'_>, table: &mut [u64]) -> io::Result<()> {
     let mut scratch = [MARK; 6];
     let mut at = [0u64; 2];
     filled::fill(&mut at, 7);
-    let point = if batch.q == 1 { &at[..0] } else { &at[..] };
+    let point = point(&at, batch.q);
     table.fill(MARK);
     let folded = fold::fold_packed_w(
         batch.packed,
