@@ -1,74 +1,63 @@
--- An outcome and its theorem handed on: C's structs in the place of those of the crates below.
+-- An outcome and its theorem handed on: C's structs in the place of the answers of the crates below.
 -- Assumes nothing.
-use mathlib.Core.Path.{◌≡◌, refl, ap}
+use mathlib.Core.Path.{◌≡◌, refl, sym, ap, ◌∙◌, subst}
 use mathlib.Core.List.{List}
 use Prim.Native.Nat.{ℕ, ◌<◌, ◌^◌}
-use lib.ListN.{length}
 use lib.Pow.{low, high}
+use Rattle.std.specs.Prelude.{Result, Ok, Err, IfOk, OnOk}
 use Rattle.magnetar_field.specs.Gf128.{value}
+use Rattle.magnetar_field.specs.Number.{number_of}
 use Rattle.magnetar_field.specs.declared.gf128.Gf128.{Gf128}
-use Rattle.magnetar_hash.specs.Transcript.{draws_answer, draws_out}
+use Rattle.magnetar_field.specs.declared.refusal.Refusal.{Refusal}
+use Rattle.magnetar_hash.specs.Transcript.{TranscriptAnswer, answer_of}
 use Rattle.magnetar_hash.specs.declared.transcript.Transcript.{Transcript}
-use Rattle.magnetar_hash.specs.declared.transcript.TranscriptAnswer.{TranscriptAnswer}
 use Rattle.magnetar_multilinear.specs.Entries.Answer.{element as found}
 use Rattle.magnetar_relation.specs.Rules.{Rules}
-use Rattle.magnetar_prover.specs.Capture.{captured_by, capture_outcome}
-use Rattle.magnetar_prover.specs.declared.capture.Captured.{Captured}
+use Rattle.magnetar_spartan.proofs.PassedTests.{some}
 use Rattle.magnetar_spartan.specs.Outcome.{verified, verify_outcome, proved, prove_outcome}
 use Rattle.magnetar_spartan.specs.Refusals.{verifier_scratch_of}
 use Rattle.magnetar_spartan.specs.Theorems.{AcceptedCall, ProvedCall, WritesAtMost}
-use Rattle.magnetar_sumcheck_verifier.specs.Outcome.{left_by, round_outcome}
-use Rattle.magnetar_sumcheck_verifier.specs.declared.verify.Round.{Round}
 use Rattle.magnetar_c.specs.CStructs.{element, evaluated}
 use Rattle.magnetar_c.specs.declared.across.MagnetarElement.{MagnetarElement}
 use Rattle.magnetar_c.specs.declared.across.MagnetarValue.{MagnetarValue}
 
--- a verifier's outcome from the answer a at the transcript t is that from the answer b at the transcript u
+-- what holds on `Ok` holds where the number is 0
+passed : (r : Result Unit Refusal) (P : Type 0) → OnOk r P → number_of r ≡ 0 → P
+passed (Ok u) P h e = h
+passed (Err y) P h e = absurd (some y e)
+
+-- a verifier's outcome, of the answer r at the transcript t, is that of the answer b at the transcript u
 pub verified-handed :
-    (R : Rules) (x w c s : List ℕ) {a b : TranscriptAnswer} {t u : Transcript} {c' s' : List ℕ} →
+    (R : Rules) (x w c s : List ℕ) (r : Result Unit Refusal) {a b : TranscriptAnswer} {t u : Transcript} {c' s' : List ℕ} →
     b ≡ a →
-    (verified a c' s' ≡ verify_outcome R x w t c s) × (WritesAtMost (verifier_scratch_of R) s s' × (a.code ≡ 0 → AcceptedCall R x w t c')) →
+    a.code ≡ number_of r →
+    (verified a c' s' ≡ verify_outcome R x w t c s) × (WritesAtMost (verifier_scratch_of R) s s' × OnOk r (AcceptedCall R x w t c')) →
     t ≡ u →
     (verified b c' s' ≡ verify_outcome R x w u c s) × (WritesAtMost (verifier_scratch_of R) s s' × (b.code ≡ 0 → AcceptedCall R x w u c'))
-verified-handed R x w c s e h f = rw (e, ← f) h
+verified-handed R x w c s r {a} {b} {t} {u} {c'} {s'} e k h f = (
+  rw (e, ← f) h.0,
+  (
+    h.1.0,
+    λ z. subst (λ (v : Transcript). AcceptedCall R x w v c') f
+        (passed r (AcceptedCall R x w t c') h.1.1 (sym k ∙ (sym (ap (λ (y : TranscriptAnswer). y.code) e) ∙ z))),
+  ),
+)
 
--- the same of a prover
+-- the same of a prover's answer r
 pub proved-handed :
-    (R : Rules) (ws x w c s : List ℕ) {a b : TranscriptAnswer} {t u : Transcript} {w' c' s' : List ℕ} →
-    b ≡ a →
-    (proved a w' c' s' ≡ prove_outcome R ws x t w c s) × (a.code ≡ 0 → ProvedCall R ws x t w' c' a.transcript) →
+    (R : Rules) (ws x w c s : List ℕ) (r : Result Transcript Refusal) {b : TranscriptAnswer} {t u : Transcript} {w' c' s' : List ℕ} →
+    b ≡ answer_of u r →
+    (proved (answer_of t r) w' c' s' ≡ prove_outcome R ws x t w c s) × IfOk r (λ v. ProvedCall R ws x t w' c' v) →
     t ≡ u →
     (proved b w' c' s' ≡ prove_outcome R ws x u w c s) × (b.code ≡ 0 → ProvedCall R ws x u w' c' b.transcript)
-proved-handed R ws x w c s e h f = rw (e, ← f) h
-
--- the answer of n draws from the transcript t is that from the transcript u
-pub draws-handed :
-    (label : List ℕ) (n : ℕ) (o : List ℕ) {a b : TranscriptAnswer} {t u : Transcript} {o' : List ℕ} →
-    b ≡ a →
-    (a ≡ draws_answer t label n (length o)) × (o' ≡ draws_out t label n o) →
-    t ≡ u →
-    (b ≡ draws_answer u label n (length o)) × (o' ≡ draws_out u label n o)
-draws-handed label n o e h f = rw (e, ← f) h
-
--- a round with the claim c and the challenge r is one with d and s
-pub round-handed :
-    (n : ℕ) (m : List ℕ) {a b : Round} {c d r s : Gf128} →
-    b ≡ a →
-    left_by a ≡ round_outcome n m (value c) (value r) →
-    c ≡ d →
-    r ≡ s →
-    left_by b ≡ round_outcome n m (value d) (value s)
-round-handed n m e h f g = rw (e, ← f, ← g) h
-
--- the same of a round that draws, with the transcripts t and u
-pub capture-handed :
-    (n : ℕ) (m label : List ℕ) {a b : Captured} {c d : Gf128} {t u : Transcript} →
-    b ≡ a →
-    captured_by a ≡ capture_outcome n m (value c) t label →
-    c ≡ d →
-    t ≡ u →
-    captured_by b ≡ capture_outcome n m (value d) u label
-capture-handed n m label e h f g = rw (e, ← f, ← g) h
+proved-handed R ws x w c s (Ok v) {b} {t} {u} {w'} {c'} e h f = (
+  rw (e, ← f) h.0,
+  λ z. rw (e, ← f) h.1,
+)
+proved-handed R ws x w c s (Err y) {b} {t} {u} {w'} {c'} e h f = (
+  rw (e, ← f) h.0,
+  λ z. absurd (some y (sym (ap (λ (a : TranscriptAnswer). a.code) e) ∙ z)),
+)
 
 -- the words of an element are those of its value
 pub value-handed :

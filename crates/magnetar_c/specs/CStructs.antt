@@ -11,12 +11,12 @@ use Rattle.magnetar_multilinear.specs.Entries.Answer.{element as found, refusal 
 use Rattle.magnetar_r1cs.specs.Entries.{Flagged}
 use Rattle.magnetar_r1cs.specs.Entries.Flagged.{flag as asked, refusal as not_asked}
 use Rattle.magnetar_field.specs.declared.gf128.Gf128.{Gf128}
-use Rattle.magnetar_hash.specs.declared.sha3.DigestAnswer.{DigestAnswer}
+use Rattle.magnetar_field.specs.Gf128.{value}
 use Rattle.magnetar_hash.specs.declared.transcript.Transcript.{Transcript}
-use Rattle.magnetar_hash.specs.declared.transcript.TranscriptAnswer.{TranscriptAnswer}
-use Rattle.magnetar_hash.specs.declared.transcript.DrawAnswer.{DrawAnswer}
-use Rattle.magnetar_sumcheck_verifier.specs.declared.verify.Round.{Round}
-use Rattle.magnetar_prover.specs.declared.capture.Captured.{Captured}
+use Rattle.magnetar_hash.specs.Transcript.{TranscriptAnswer, DrawAnswer}
+use Rattle.magnetar_hash.specs.Parts.{DigestAnswer}
+use Rattle.magnetar_sumcheck_verifier.specs.Outcome.{RoundLeft}
+use Rattle.magnetar_prover.specs.Capture.{CaptureLeft}
 use Rattle.magnetar_c.specs.declared.across.MagnetarElement.{MagnetarElement}
 use Rattle.magnetar_c.specs.declared.across.MagnetarTranscript.{MagnetarTranscript}
 use Rattle.magnetar_c.specs.declared.across.MagnetarAnswer.{MagnetarAnswer}
@@ -58,16 +58,16 @@ row_check_answer (judged (fld u i)) = record { code = 0; system = 2; login = u; 
 row_check_answer (refused n) = record { code = n; system = 3; login = 0; row = 0; column = 0 }
 
 -- what a round of the verifier leaves
-abbrev pub round : MagnetarRound → Round
-round r = record { code = r.code; holds = r.holds; claim = element r.claim }
+abbrev pub round : MagnetarRound → RoundLeft
+round r = record { code = r.code; holds = r.holds; claim = value (element r.claim) }
 
 -- the same of a round that draws
-abbrev pub captured : MagnetarCapture → Captured
+abbrev pub captured : MagnetarCapture → CaptureLeft
 captured c =
     record {
       code = c.code;
       holds = c.holds;
-      claim = element c.claim;
+      claim = value (element c.claim);
       challenge = element c.challenge;
       transcript = transcript c.transcript;
     }

@@ -1,16 +1,23 @@
-// The structs that cross to C, and the functions that take them from the structs of the crates below and back.
+// The structs that cross to C, and the functions that take them from the answers of the crates below and back.
 ghost use Rattle.std.specs.Prelude.{◌≡◌};
+ghost use Rattle.magnetar_field.specs.Gf128.{value};
+ghost use Rattle.magnetar_field.specs.Number.{number_of};
+ghost use Rattle.magnetar_hash.specs.Transcript.{answer_of, new_answer_of, draw_answer_of};
 ghost use Rattle.magnetar_multilinear.specs.Entries.{answer};
 ghost use Rattle.magnetar_r1cs.specs.Entries.{flagged};
 ghost use Rattle.magnetar_check.specs.Check.{outcome};
+ghost use Rattle.magnetar_hash.specs.Parts.{hash_answer_of};
+ghost use Rattle.magnetar_prover.specs.Capture.{captured_by};
+ghost use Rattle.magnetar_spartan.specs.Outcome.{answered};
+ghost use Rattle.magnetar_sumcheck_verifier.specs.Outcome.{left_by};
 ghost use Rattle.magnetar_c.specs.CStructs as across;
 
 use magnetar_check::check::RowCheck;
-use magnetar_field::gf128::{Evaluated, Gf128};
-use magnetar_hash::sha3::DigestAnswer;
-use magnetar_hash::transcript::{DrawAnswer, Transcript, TranscriptAnswer};
+use magnetar_field::gf128::Gf128;
+use magnetar_field::refusal::Refusal;
+use magnetar_hash::transcript::{Drawn, Transcript};
 use magnetar_prover::capture::Captured;
-use magnetar_r1cs::r1cs::Flag;
+use magnetar_spartan::virtual_spartan::Verified;
 use magnetar_sumcheck_verifier::verify::Round;
 
 // An element: the low word first.
@@ -122,6 +129,9 @@ pub(crate) fn element_out(e: Gf128) -> MagnetarElement
     MagnetarElement { lo: e.lo, hi: e.hi }
 }
 
+// The element of a call that is refused.
+const NO_ELEMENT: MagnetarElement = MagnetarElement { lo: 0, hi: 0 };
+
 pub(crate) fn transcript_in(t: MagnetarTranscript) -> Transcript
     ensures { result ≡ across.transcript t }
 {
@@ -142,141 +152,181 @@ pub(crate) fn transcript_out(t: Transcript) -> MagnetarTranscript
     }
 }
 
-pub(crate) fn answer_out(a: TranscriptAnswer) -> MagnetarAnswer
-    ensures { across.answer result ≡ a }
+// ---- Answers: a refusal's number, 0 for none, and what the call hands back.
+
+pub(crate) fn number_out(r: Result<(), Refusal>) -> u32
+    ensures { result ≡ number_of r }
 {
-    let t = a.transcript;
-    let transcript = transcript_out(t);
+    match r {
+        Ok(()) => 0,
+        Err(e) => e.number(),
+    }
+}
+
+// Of a call that was given the transcript t.
+pub(crate) fn answer_out(t: MagnetarTranscript, r: Result<Transcript, Refusal>) -> MagnetarAnswer
+    ensures { across.answer result ≡ answer_of (across.transcript t) r }
+{
+    match r {
+        Ok(u) => MagnetarAnswer {
+            code: 0,
+            transcript: transcript_out(u),
+        },
+        Err(refusal) => MagnetarAnswer {
+            code: refusal.number(),
+            transcript: t,
+        },
+    }
+}
+
+// Of a call that was given none.
+pub(crate) fn new_answer_out(r: Result<Transcript, Refusal>) -> MagnetarAnswer
+    ensures { across.answer result ≡ new_answer_of r }
+{
+    let t = MagnetarTranscript {
+        state: [0; 32],
+        squeeze_ctr: 0,
+    };
+    answer_out(t, r)
+}
+
+pub(crate) fn draw_out(t: MagnetarTranscript, r: Result<Drawn, Refusal>) -> MagnetarDraw
+    ensures { across.drawn result ≡ draw_answer_of (across.transcript t) r }
+{
+    match r {
+        Ok(d) => MagnetarDraw {
+            code: 0,
+            element: element_out(d.element),
+            transcript: transcript_out(d.transcript),
+        },
+        Err(e) => MagnetarDraw {
+            code: e.number(),
+            element: NO_ELEMENT,
+            transcript: t,
+        },
+    }
+}
+
+// Of a proof, where the transcript moves on although a check does not pass.
+pub(crate) fn verified_out(v: Verified) -> MagnetarAnswer
+    ensures { across.answer result ≡ answered v }
+{
     MagnetarAnswer {
-        code: a.code,
-        transcript,
+        code: number_out(v.outcome),
+        transcript: transcript_out(v.transcript),
     }
 }
 
-pub(crate) fn draw_out(d: DrawAnswer) -> MagnetarDraw
-    ensures { across.drawn result ≡ d }
+// What a row check answers, with nothing found; `system` says what it is.
+fn answer_at(code: u32, system: u32, login: usize, row: usize, column: usize) -> MagnetarRowCheck
+    ensures { result ≡ record { code = code; system = system; login = login; row = row; column = column } }
 {
-    let e = d.element;
-    let t = d.transcript;
-    let element = element_out(e);
-    let transcript = transcript_out(t);
-    MagnetarDraw {
-        code: d.code,
-        element,
-        transcript,
+    MagnetarRowCheck {
+        code,
+        system,
+        login,
+        row,
+        column,
     }
 }
 
-pub(crate) fn check_out(c: RowCheck) -> MagnetarRowCheck
-    ensures { result ≡ across.row_check_answer (outcome c) }
+#[tactic(auto, unfolding(crate::specs::CStructs::row_check_answer))]
+pub(crate) fn check_out(r: Result<RowCheck, Refusal>) -> MagnetarRowCheck
+    ensures { result ≡ across.row_check_answer (outcome r) }
 {
-    match c {
-        RowCheck::Good => MagnetarRowCheck {
+    match r {
+        Ok(RowCheck::Good) => answer_at(0, 0, 0, 0, 0),
+        Ok(RowCheck::Bin(u, i)) => answer_at(0, 1, u, i, 0),
+        Ok(RowCheck::Fld(u, i)) => answer_at(0, 2, u, i, 0),
+        Err(e) => answer_at(e.number(), 3, 0, 0, 0),
+        Ok(RowCheck::Stray(u, y)) => answer_at(0, 4, u, 0, y),
+    }
+}
+
+pub(crate) fn digest_out(r: Result<[u8; 32], Refusal>) -> MagnetarDigestAnswer
+    ensures { across.digest result ≡ hash_answer_of r }
+{
+    match r {
+        Ok(bytes) => MagnetarDigestAnswer {
             code: 0,
-            system: 0,
-            login: 0,
-            row: 0,
-            column: 0,
+            digest: MagnetarDigest { bytes },
         },
-        RowCheck::Stray(u, y) => MagnetarRowCheck {
-            code: 0,
-            system: 4,
-            login: u,
-            row: 0,
-            column: y,
-        },
-        RowCheck::Bin(u, i) => MagnetarRowCheck {
-            code: 0,
-            system: 1,
-            login: u,
-            row: i,
-            column: 0,
-        },
-        RowCheck::Fld(u, i) => MagnetarRowCheck {
-            code: 0,
-            system: 2,
-            login: u,
-            row: i,
-            column: 0,
-        },
-        RowCheck::Refused(n) => MagnetarRowCheck {
-            code: n,
-            system: 3,
-            login: 0,
-            row: 0,
-            column: 0,
+        Err(e) => MagnetarDigestAnswer {
+            code: e.number(),
+            digest: MagnetarDigest { bytes: [0; 32] },
         },
     }
 }
 
-pub(crate) fn digest_out(d: DigestAnswer) -> MagnetarDigestAnswer
-    ensures { across.digest result ≡ d }
+#[tactic(auto, unfolding(crate::specs::CStructs::evaluated))]
+pub(crate) fn value_out(r: Result<Gf128, Refusal>) -> MagnetarValue
+    ensures { result ≡ across.evaluated (answer r) }
 {
-    let bytes = d.digest;
-    let digest = MagnetarDigest { bytes };
-    MagnetarDigestAnswer {
-        code: d.code,
-        digest,
-    }
-}
-
-pub(crate) fn value_out(v: Evaluated) -> MagnetarValue
-    ensures { result ≡ across.evaluated (answer v) }
-{
-    match v {
-        Evaluated::Value(e) => {
-            let element = element_out(e);
-            MagnetarValue { code: 0, element }
-        }
-        Evaluated::Refused(n) => MagnetarValue {
-            code: n,
-            element: MagnetarElement { lo: 0, hi: 0 },
-        },
-    }
-}
-
-pub(crate) fn flag_out(f: Flag) -> MagnetarFlag
-    ensures { result ≡ across.flag (flagged f) }
-{
-    match f {
-        Flag::Yes => MagnetarFlag { code: 0, yes: true },
-        Flag::No => MagnetarFlag {
+    match r {
+        Ok(e) => MagnetarValue {
             code: 0,
-            yes: false,
+            element: element_out(e),
         },
-        Flag::Refused(n) => MagnetarFlag {
-            code: n,
+        Err(e) => MagnetarValue {
+            code: e.number(),
+            element: NO_ELEMENT,
+        },
+    }
+}
+
+#[tactic(auto, unfolding(crate::specs::CStructs::flag))]
+pub(crate) fn flag_out(r: Result<bool, Refusal>) -> MagnetarFlag
+    ensures { result ≡ across.flag (flagged r) }
+{
+    match r {
+        Ok(yes) => MagnetarFlag { code: 0, yes },
+        Err(e) => MagnetarFlag {
+            code: e.number(),
             yes: false,
         },
     }
 }
 
-pub(crate) fn round_out(o: Round) -> MagnetarRound
-    ensures { across.round result ≡ o }
+// Of a round with the running claim c.
+pub(crate) fn round_out(c: MagnetarElement, r: Result<Round, Refusal>) -> MagnetarRound
+    ensures { across.round result ≡ left_by (value (across.element c)) r }
 {
-    let e = o.claim;
-    let claim = element_out(e);
-    MagnetarRound {
-        code: o.code,
-        holds: o.holds,
-        claim,
+    match r {
+        Ok(o) => MagnetarRound {
+            code: 0,
+            holds: o.holds,
+            claim: element_out(o.claim),
+        },
+        Err(e) => MagnetarRound {
+            code: e.number(),
+            holds: false,
+            claim: c,
+        },
     }
 }
 
-pub(crate) fn capture_out(o: Captured) -> MagnetarCapture
-    ensures { across.captured result ≡ o }
+// The same of a round that draws its challenge from the transcript t.
+pub(crate) fn capture_out(
+    c: MagnetarElement,
+    t: MagnetarTranscript,
+    r: Result<Captured, Refusal>,
+) -> MagnetarCapture
+    ensures { across.captured result ≡ captured_by (value (across.element c)) (across.transcript t) r }
 {
-    let e = o.claim;
-    let f = o.challenge;
-    let t = o.transcript;
-    let claim = element_out(e);
-    let challenge = element_out(f);
-    let transcript = transcript_out(t);
-    MagnetarCapture {
-        code: o.code,
-        holds: o.holds,
-        claim,
-        challenge,
-        transcript,
+    match r {
+        Ok(o) => MagnetarCapture {
+            code: 0,
+            holds: o.holds,
+            claim: element_out(o.claim),
+            challenge: element_out(o.challenge),
+            transcript: transcript_out(o.transcript),
+        },
+        Err(e) => MagnetarCapture {
+            code: e.number(),
+            holds: false,
+            claim: c,
+            challenge: NO_ELEMENT,
+            transcript: t,
+        },
     }
 }

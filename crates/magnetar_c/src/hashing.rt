@@ -27,7 +27,7 @@ pub extern "C" fn magnetar_transcript_new(
 ) -> MagnetarAnswer
     ensures { across.answer result ≡ spec.new_answer protocol.now public.now lens.now }
 {
-    across::answer_out(transcript::new(protocol, public, lens))
+    across::new_answer_out(transcript::new(protocol, public, lens))
 }
 
 // Bytes are absorbed under a label.
@@ -39,7 +39,10 @@ pub extern "C" fn magnetar_absorb_bytes(
 ) -> MagnetarAnswer
     ensures { across.answer result ≡ spec.absorb_answer (across.transcript t) label.now bytes.now }
 {
-    across::answer_out(transcript::absorb_bytes(across::transcript_in(t), label, bytes))
+    across::answer_out(
+        t,
+        transcript::absorb_bytes(across::transcript_in(t), label, bytes),
+    )
 }
 
 // A word is absorbed under a label.
@@ -47,7 +50,10 @@ pub extern "C" fn magnetar_absorb_bytes(
 pub extern "C" fn magnetar_absorb_u64(t: MagnetarTranscript, label: &[u8], v: u64) -> MagnetarAnswer
     ensures { across.answer result ≡ spec.absorb_answer (across.transcript t) label.now (le_bytes 8 v) }
 {
-    across::answer_out(transcript::absorb_u64(across::transcript_in(t), label, v))
+    across::answer_out(
+        t,
+        transcript::absorb_u64(across::transcript_in(t), label, v),
+    )
 }
 
 // A hash is absorbed under a label.
@@ -60,7 +66,10 @@ pub extern "C" fn magnetar_absorb_digest(
     ensures { across.answer result ≡ spec.absorb_answer (across.transcript t) label.now d.bytes }
 {
     let bytes = d.bytes;
-    across::answer_out(transcript::absorb_digest(across::transcript_in(t), label, &bytes))
+    across::answer_out(
+        t,
+        transcript::absorb_digest(across::transcript_in(t), label, &bytes),
+    )
 }
 
 // Elements are absorbed under a label.
@@ -72,7 +81,10 @@ pub extern "C" fn magnetar_absorb_field(
 ) -> MagnetarAnswer
     ensures { across.answer result ≡ spec.field_answer (across.transcript t) label.now words.now }
 {
-    across::answer_out(transcript::absorb_field(across::transcript_in(t), label, words))
+    across::answer_out(
+        t,
+        transcript::absorb_field(across::transcript_in(t), label, words),
+    )
 }
 
 // An element is drawn under a label.
@@ -80,7 +92,10 @@ pub extern "C" fn magnetar_absorb_field(
 pub extern "C" fn magnetar_challenge_field(t: MagnetarTranscript, label: &[u8]) -> MagnetarDraw
     ensures { across.drawn result ≡ spec.draw_answer (across.transcript t) label.now }
 {
-    across::draw_out(transcript::challenge_field(across::transcript_in(t), label))
+    across::draw_out(
+        t,
+        transcript::challenge_field(across::transcript_in(t), label),
+    )
 }
 
 // n elements are drawn under a label into the first 2n words of out.
@@ -94,5 +109,8 @@ pub extern "C" fn magnetar_challenge_field_vec(
     ensures { (across.answer result ≡ spec.draws_answer (across.transcript t) label.now n (length out.old))
         × (out.new ≡ spec.draws_out (across.transcript t) label.now n out.old) }
 {
-    across::answer_out(transcript::challenge_field_vec(across::transcript_in(t), label, n, out))
+    across::answer_out(
+        t,
+        transcript::challenge_field_vec(across::transcript_in(t), label, n, out),
+    )
 }

@@ -7,6 +7,7 @@ ghost use Rattle.magnetar_c.specs.CStructs as across;
 
 use crate::across;
 use crate::across::{MagnetarFlag, MagnetarValue};
+use magnetar_matrix::entries::Slices;
 use magnetar_r1cs::r1cs;
 
 // The product with the vector z.
@@ -26,7 +27,8 @@ pub extern "C" fn magnetar_apply(
     ensures product { let A = lent rows cols row.now col.now lo.now hi.now in
         out.new ≡ apply_out A z.now out.old }
 {
-    r1cs::apply(rows, cols, row, col, lo, hi, z, out)
+    let es = Slices { row, col, lo, hi };
+    across::number_out(r1cs::apply(rows, cols, &es, z, out))
 }
 
 // The extension at the row point and every column.
@@ -49,7 +51,8 @@ pub extern "C" fn magnetar_eval_mle_table(
     ensures cleared { let A = lent rows cols row.now col.now lo.now hi.now in
         scratch.new ≡ table_scratch A point.now out.old scratch.old }
 {
-    r1cs::eval_mle_table(rows, cols, row, col, lo, hi, point, out, scratch)
+    let es = Slices { row, col, lo, hi };
+    across::number_out(r1cs::eval_mle_table(rows, cols, &es, point, out, scratch))
 }
 
 // The extension at the row point and the column point.
@@ -70,7 +73,8 @@ pub extern "C" fn magnetar_eval_mle_at(
     ensures cleared { let A = lent rows cols row.now col.now lo.now hi.now in
         scratch.new ≡ at_scratch A r.now c.now scratch.old }
 {
-    across::value_out(r1cs::eval_mle_at(rows, cols, row, col, lo, hi, r, c, scratch))
+    let es = Slices { row, col, lo, hi };
+    across::value_out(r1cs::eval_mle_at(rows, cols, &es, r, c, scratch))
 }
 
 // Whether every value is 0 or 1.
@@ -86,7 +90,8 @@ pub extern "C" fn magnetar_is_binary(
     ensures { let A = lent rows cols row.now col.now lo.now hi.now in
         result ≡ across.flag (flagged_of (binary_refusal A) (binary (matrix_of A))) }
 {
-    across::flag_out(r1cs::is_binary(rows, cols, row, col, lo, hi))
+    let es = Slices { row, col, lo, hi };
+    across::flag_out(r1cs::is_binary(rows, cols, &es))
 }
 
 // The products of a batch's logins, one behind the other, and whether all of them are 0 or 1 because every value is and no column exceeds w.
@@ -109,7 +114,8 @@ pub extern "C" fn magnetar_apply_simd_packed(
     ensures products { let A = lent rows cols row.now col.now lo.now hi.now in
         out.new ≡ packed_out A packed.now x.now q w out.old }
 {
-    across::flag_out(r1cs::apply_simd_packed(rows, cols, row, col, lo, hi, packed, x, q, w, out))
+    let es = Slices { row, col, lo, hi };
+    across::flag_out(r1cs::apply_simd_packed(rows, cols, &es, packed, x, q, w, out))
 }
 
 // The products of a batch's logins where all of them are 0 or 1, as masks.
@@ -132,5 +138,6 @@ pub extern "C" fn magnetar_apply_simd_bit_masks(
     ensures written { let A = lent rows cols row.now col.now lo.now hi.now in
         out.new ≡ masks_out A packed.now q w v out.old }
 {
-    r1cs::apply_simd_bit_masks(rows, cols, row, col, lo, hi, packed, q, w, v, out)
+    let es = Slices { row, col, lo, hi };
+    across::number_out(r1cs::apply_simd_bit_masks(rows, cols, &es, packed, q, w, v, out))
 }

@@ -2,8 +2,8 @@
 ghost use Rattle.std.specs.Prelude.{◌≡◌, length};
 ghost use Rattle.magnetar_field.specs.Gf128.{value};
 ghost use Rattle.magnetar_sumcheck_prover.specs.Entries.{outer_refusal, outer_out, inner_refusal, inner_out};
-ghost use Rattle.magnetar_sumcheck_verifier.specs.Outcome.{left_by, round_outcome};
-ghost use Rattle.magnetar_prover.specs.Capture.{captured_by, capture_outcome};
+ghost use Rattle.magnetar_sumcheck_verifier.specs.Outcome.{round_outcome};
+ghost use Rattle.magnetar_prover.specs.Capture.{capture_outcome};
 ghost use Rattle.magnetar_c.specs.CStructs as across;
 
 use crate::across;
@@ -29,7 +29,7 @@ pub extern "C" fn magnetar_outer_message(
     ensures message { out.new ≡
         outer_out out.old e.now a.now b.now c.now v (value (across.element k)) (value (across.element t)) }
 {
-    engine::outer_message(
+    across::number_out(engine::outer_message(
         out,
         e,
         a,
@@ -38,7 +38,7 @@ pub extern "C" fn magnetar_outer_message(
         v,
         across::element_in(k),
         across::element_in(t),
-    )
+    ))
 }
 
 // The message of a round of the inner sum-check.
@@ -47,7 +47,7 @@ pub extern "C" fn magnetar_inner_message(out: &mut [u64], t: &[u64], z: &[u64], 
     ensures refusal { result ≡ inner_refusal (length out.old) (length t.now) (length z.now) v }
     ensures message { out.new ≡ inner_out out.old t.now z.now v }
 {
-    engine::inner_message(out, t, z, v)
+    across::number_out(engine::inner_message(out, t, z, v))
 }
 
 // A round of the verifier with the challenge r: the check, and the next running claim.
@@ -58,15 +58,13 @@ pub extern "C" fn magnetar_round_external(
     claim: MagnetarElement,
     r: MagnetarElement,
 ) -> MagnetarRound
-    ensures { left_by (across.round result) ≡
+    ensures { across.round result ≡
         round_outcome n msg.now (value (across.element claim)) (value (across.element r)) }
 {
-    across::round_out(verify::round_external(
-        msg,
-        n,
-        across::element_in(claim),
-        across::element_in(r),
-    ))
+    across::round_out(
+        claim,
+        verify::round_external(msg, n, across::element_in(claim), across::element_in(r)),
+    )
 }
 
 // A round of the verifier that absorbs a right message and draws the challenge for itself.
@@ -78,14 +76,18 @@ pub extern "C" fn magnetar_round_capturing(
     t: MagnetarTranscript,
     label: &[u8],
 ) -> MagnetarCapture
-    ensures { captured_by (across.captured result) ≡
+    ensures { across.captured result ≡
         capture_outcome n msg.now (value (across.element claim)) (across.transcript t) label.now }
 {
-    across::capture_out(capture::round_capturing(
-        msg,
-        n,
-        across::element_in(claim),
-        across::transcript_in(t),
-        label,
-    ))
+    across::capture_out(
+        claim,
+        t,
+        capture::round_capturing(
+            msg,
+            n,
+            across::element_in(claim),
+            across::transcript_in(t),
+            label,
+        ),
+    )
 }

@@ -17,6 +17,7 @@ use magnetar_batch::{combo, fold};
 use magnetar_check::check;
 use magnetar_digest::digest;
 use magnetar_layout::layout;
+use magnetar_matrix::entries::Slices;
 use magnetar_relation::shapes::Shapes;
 use magnetar_spartan::virtual_spartan;
 
@@ -26,7 +27,7 @@ pub extern "C" fn magnetar_layout_build(w: usize, lens: &[usize], offsets: &mut 
     ensures answer { result ≡ build_refusal w lens.now offsets.old }
     ensures written { offsets.new ≡ build_out w lens.now offsets.old }
 {
-    layout::build(w, lens, offsets)
+    across::number_out(layout::build(w, lens, offsets))
 }
 
 // The digest of a relation, for both ends to absorb before a run.
@@ -44,7 +45,8 @@ pub extern "C" fn magnetar_relation_digest(
     ensures { let R = rules m q lens.now sh row.now col.now lo.now hi.now in
         across.digest result ≡ digest_answer R }
 {
-    across::digest_out(digest::relation_digest(m, q, lens, sh, row, col, lo, hi))
+    let es = Slices { row, col, lo, hi };
+    across::digest_out(digest::relation_digest(m, q, lens, sh, &es))
 }
 
 // The batch folded at the point: column y is the sum over the logins of eq times the bit.
@@ -64,7 +66,7 @@ pub extern "C" fn magnetar_fold_packed_w(
     ensures cleared { scratch.new ≡
         fold_scratch packed.now q w point.now out.old scratch.old }
 {
-    fold::fold_packed_w(packed, q, w, point, out, scratch)
+    across::number_out(fold::fold_packed_w(packed, q, w, point, out, scratch))
 }
 
 // The six matrices combined into one table of columns.
@@ -86,7 +88,8 @@ pub extern "C" fn magnetar_build_m_combo(
         combined result out.new scratch.new
         ≡ combo_outcome R alphas.now pb.now pf.now out.old scratch.old }
 {
-    combo::build_m_combo(out, scratch, m, sh, row, col, lo, hi, alphas, pb, pf)
+    let es = Slices { row, col, lo, hi };
+    across::number_out(combo::build_m_combo(out, scratch, m, sh, &es, alphas, pb, pf))
 }
 
 // The first stray bit, a bit that is set outside the segments: the lowest login, then the lowest column. Without one the first row that
@@ -109,7 +112,8 @@ pub extern "C" fn magnetar_row_check(
         let o = check_outcome R packed.now x.now scratch.old in
         (result ≡ across.row_check_answer o.answer) × (scratch.new ≡ o.scratch) }
 {
-    across::check_out(check::row_check(scratch, m, q, lens, sh, row, col, lo, hi, packed, x))
+    let es = Slices { row, col, lo, hi };
+    across::check_out(check::row_check(scratch, m, q, lens, sh, &es, packed, x))
 }
 
 // The proof and the claims of a batch.
@@ -137,7 +141,8 @@ pub extern "C" fn magnetar_prove_virtual_spartan(
         result.code ≡ 0
         → ProvedCall R packed.now x.now (across.transcript t) proof.new claims.new (across.answer result).transcript }
 {
-    across::answer_out(virtual_spartan::prove_virtual_spartan(
+    let es = Slices { row, col, lo, hi };
+    let answer = virtual_spartan::prove_virtual_spartan(
         proof,
         claims,
         scratch,
@@ -145,14 +150,12 @@ pub extern "C" fn magnetar_prove_virtual_spartan(
         q,
         lens,
         sh,
-        row,
-        col,
-        lo,
-        hi,
+        &es,
         packed,
         x,
         across::transcript_in(t),
-    ))
+    );
+    across::answer_out(t, answer)
 }
 
 // The verdict on a proof, and the claims of one that is accepted.
@@ -181,17 +184,15 @@ pub extern "C" fn magnetar_verify_virtual_spartan(
         result.code ≡ 0
         → AcceptedCall R x.now proof.now (across.transcript t) claims.new }
 {
-    across::answer_out(virtual_spartan::verify_virtual_spartan(
+    let es = Slices { row, col, lo, hi };
+    across::verified_out(virtual_spartan::verify_virtual_spartan(
         claims,
         scratch,
         m,
         q,
         lens,
         sh,
-        row,
-        col,
-        lo,
-        hi,
+        &es,
         x,
         proof,
         across::transcript_in(t),

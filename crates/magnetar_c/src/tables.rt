@@ -29,7 +29,7 @@ pub extern "C" fn magnetar_eq_build(point: &[u64], start: MagnetarElement, out: 
     ensures refusal { result ≡ eq_refusal point.now out.old }
     ensures table { out.new ≡ eq_out point.now (value (across.element start)) out.old }
 {
-    EqBits::build(point, across::element_in(start), out)
+    across::number_out(EqBits::build(point, across::element_in(start), out))
 }
 
 // Variable var of the table is bound to r.
@@ -38,7 +38,7 @@ pub extern "C" fn magnetar_bind_var(table: &mut [u64], var: usize, r: MagnetarEl
     ensures refusal { result ≡ bind_refusal table.old var }
     ensures bound { table.new ≡ bind_out table.old var (value (across.element r)) }
 {
-    multilinear::bind_var(table, var, across::element_in(r))
+    across::number_out(multilinear::bind_var(table, var, across::element_in(r)))
 }
 
 // The eq table without variable v.
@@ -47,7 +47,7 @@ pub extern "C" fn magnetar_drop_var(table: &mut [u64], v: usize) -> u32
     ensures refusal { result ≡ drop_refusal (length table.old) v }
     ensures dropped { table.new ≡ drop_out table.old v }
 {
-    public::drop_var(table, v)
+    across::number_out(public::drop_var(table, v))
 }
 
 // The value at the point of the multilinear polynomial with the given table of values.
