@@ -13,7 +13,7 @@ use magnetar_protocol::refusal;
 use magnetar_protocol::rounds::Rounds;
 
 // Writes the elements of s, the last one first.
-pub fn reversed(out: &mut [u64], s: &[u64])
+fn reversed(out: &mut [u64], s: &[u64])
     requires { (length out.old ≡ length s.now) × (length s.now % 2 ≡ 0) }
     ensures { elements out.new ≡ reverse (elements s.now) }
 {
@@ -31,10 +31,10 @@ fn write_in(out: &mut [u64], proof: &[u64], draws: &[u64], r: Rounds, l: usize)
     requires drawn { 2 * (r.shared + r.bin + (r.shared + r.fld) + r.shared + r.bin + r.fld + 6 + r.inner) ≤ length draws.now }
     ensures { let s = r.shared in let b = r.bin in let f = r.fld in let c = r.inner in elements out.new ≡ reverse (part (s + b + (s + f)) s (elements draws.now)) ++ (part (s + b + (s + f) + s + b + f + 6) (c - 1) (elements draws.now) ++ part (8 * s + 4 * b + 4 * f + 6 + 3 * c + 1) l (elements proof.now)) }
 {
-    let n = r.inner.saturating_sub(1);
-    let a = 2 * r.shared;
+    let n = (r.inner as usize).saturating_sub(1);
+    let a = 2 * r.shared as usize;
     let e = a + 2 * n;
-    reversed(&mut out[..a], piece(draws, r.taus(), r.shared));
+    reversed(&mut out[..a], piece(draws, r.taus(), r.shared as usize));
     out[a..e].copy_from_slice(piece(draws, r.alphas() + 6, n));
     out[e..].copy_from_slice(piece(proof, r.end() + 1, l));
 }
@@ -58,13 +58,11 @@ pub fn write_claims(
 {
     refusal::outline_refusal(m, q, rb, rf, lens)?;
     let r = Rounds::of(m, q, rb, rf);
-    let need = r.claim_words(lens.len());
+    let l = lens.len() as u8;
+    let need = r.claim_words(l);
     require(draws.len() == r.draw_words(), Refusal::Length)?;
     require(need <= claims.len(), Refusal::Room)?;
-    require(
-        proof.len() == r.proof_words(lens.len()),
-        Refusal::ProofWords,
-    )?;
+    require(proof.len() == r.proof_words(l), Refusal::ProofWords)?;
     write_in(&mut claims[..need], proof, draws, r, lens.len());
     Ok(())
 }

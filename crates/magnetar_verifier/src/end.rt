@@ -89,9 +89,9 @@ fn inner_rounds(proof: &[u64], draws: &[u64], r: Rounds) -> Result<Gf128, Failur
     let claim = multilinear::dot(piece(draws, k, 6), piece(proof, i, 6));
     rounds(
         claim,
-        piece(proof, i + 6, 3 * r.inner),
+        piece(proof, i + 6, 3 * r.inner as usize),
         3,
-        piece(draws, k + 6, r.inner),
+        piece(draws, k + 6, r.inner as usize),
         Refusal::InnerRound,
         r.outer_events() + 12,
     )
@@ -112,7 +112,7 @@ fn identity_holds(
 {
     let k = r.alphas() + 6;
     let i = r.end();
-    let n = r.inner - 1;
+    let n = r.inner as usize - 1;
     let low = piece(draws, k, n);
     let values = piece(proof, i + 1, lens.len());
     let a = segment_sum(m / 2, lens, low, values);
@@ -133,7 +133,7 @@ fn end_phases(
     requires fits { EndFits m r.shared r.bin r.fld r.inner lens.now (length proof.now) (length draws.now) }
     ensures { found result ≡ after nothing (end_phases r.shared r.bin r.fld r.inner lens.now (elements proof.now) (elements draws.now) (value v) (value p)) }
 {
-    let events = r.outer_events() + 12 + 2 * r.inner;
+    let events = r.outer_events() + 12 + 2 * r.inner as usize;
     let claim = inner_rounds(proof, draws, r)?;
     let y = verify::inner_finish(claim, v, words::get(proof, r.end()));
     pass(y, Refusal::InnerTerminal, events)?;

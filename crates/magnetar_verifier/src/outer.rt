@@ -125,11 +125,11 @@ fn terminals(bin: Gf128, fld: Gf128, proof: &[u64], draws: &[u64], r: Rounds) ->
 {
     let k = r.taus();
     let i = r.terminals();
-    let shared = piece(draws, k, r.shared);
+    let shared = piece(draws, k, r.shared as usize);
     let x = terminal_holds(
         bin,
-        piece(draws, 0, r.shared + r.bin),
-        piece(draws, k + r.shared, r.bin),
+        piece(draws, 0, r.shared as usize + r.bin as usize),
+        piece(draws, k + r.shared as usize, r.bin as usize),
         shared,
         proof,
         i,
@@ -137,8 +137,16 @@ fn terminals(bin: Gf128, fld: Gf128, proof: &[u64], draws: &[u64], r: Rounds) ->
     pass(x, Refusal::TerminalBin, r.outer_events())?;
     let y = terminal_holds(
         fld,
-        piece(draws, r.shared + r.bin, r.shared + r.fld),
-        piece(draws, k + r.shared + r.bin, r.fld),
+        piece(
+            draws,
+            r.shared as usize + r.bin as usize,
+            r.shared as usize + r.fld as usize,
+        ),
+        piece(
+            draws,
+            k + r.shared as usize + r.bin as usize,
+            r.fld as usize,
+        ),
         shared,
         proof,
         i + 3,
@@ -154,24 +162,28 @@ fn outer_phases(proof: &[u64], draws: &[u64], r: Rounds) -> Result<(), Failure>
     ensures { found result ≡ after nothing (outer_phases r.shared r.bin r.fld (elements proof.now) (elements draws.now)) }
 {
     let k = r.taus();
-    let rows = k + r.shared;
-    let e = k + 2 * r.shared;
-    let both = shared_rounds(proof, piece(draws, k, r.shared), k)?;
+    let rows = k + r.shared as usize;
+    let e = k + 2 * r.shared as usize;
+    let both = shared_rounds(proof, piece(draws, k, r.shared as usize), k)?;
     let bin = rounds(
         both.bin,
-        piece(proof, 8 * r.shared, 4 * r.bin),
+        piece(proof, 8 * r.shared as usize, 4 * r.bin as usize),
         4,
-        piece(draws, rows, r.bin),
+        piece(draws, rows, r.bin as usize),
         Refusal::RowBin,
         e + 2,
     )?;
     let fld = rounds(
         both.fld,
-        piece(proof, 8 * r.shared + 4 * r.bin, 4 * r.fld),
+        piece(
+            proof,
+            8 * r.shared as usize + 4 * r.bin as usize,
+            4 * r.fld as usize,
+        ),
         4,
-        piece(draws, rows + r.bin, r.fld),
+        piece(draws, rows + r.bin as usize, r.fld as usize),
         Refusal::RowFld,
-        e + 2 * r.bin + 2,
+        e + 2 * r.bin as usize + 2,
     )?;
     terminals(bin, fld, proof, draws, r)
 }
@@ -194,10 +206,8 @@ pub(crate) fn sized(
     refusal::outline_refusal(m, q, rb, rf, lens)?;
     let r = Rounds::of(m, q, rb, rf);
     require(draws.len() == r.draw_words(), Refusal::Length)?;
-    require(
-        proof.len() == r.proof_words(lens.len()),
-        Refusal::ProofWords,
-    )?;
+    let l = lens.len() as u8;
+    require(proof.len() == r.proof_words(l), Refusal::ProofWords)?;
     Ok(r)
 }
 

@@ -26,10 +26,10 @@ returns-in_err-outline_refusal c =
     (claims_later x.m x.q x.rb x.rf x.lens.now x.proof.now x.draws.now x.claims.now) _ _ c.from_residual.ensures.1 c.in_err-outline_refusal.ensures in
     record { refusal = a; written = unchanged _ c.from_residual.result c.from_residual.ensures.0 a }
 
-pub claim_words-need-requires : goal.claim_words-need-requires
-claim_words-need-requires c =
+pub overflow_cast-l : goal.overflow_cast-l
+overflow_cast-l c =
     let x = c.args in
-    (c.of-r.ensures.few, (outlined-given x.m x.q x.rb x.rf x.lens.now c.in_ok-outline_refusal.ensures).few)
+    omega (arith, (outlined-given x.m x.q x.rb x.rf x.lens.now c.in_ok-outline_refusal.ensures).few)
 
 pub returns-in_err-require : goal.returns-in_err-require
 unfolding claims_refusal claims_out or_refuse
@@ -55,11 +55,6 @@ returns-in_err-require-2 c =
     (late (draw_tests R x.draws.now) (room_test (2 * claim_count R) x.claims.now ++ proof_tests R x.proof.now) (grind (arith, passing))
     (grind (arith, passing))) in
     record { refusal = a; written = unchanged _ c.from_residual-in_err-require-2.result c.from_residual-in_err-require-2.ensures.0 a }
-
-pub proof_words-requires : goal.proof_words-requires
-proof_words-requires c =
-    let x = c.args in
-    (c.of-r.ensures.few, (outlined-given x.m x.q x.rb x.rf x.lens.now c.in_ok-outline_refusal.ensures).few)
 
 pub returns-in_err-require-3 : goal.returns-in_err-require-3
 unfolding claims_refusal claims_out or_refuse

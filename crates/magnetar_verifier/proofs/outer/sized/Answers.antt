@@ -29,10 +29,10 @@ returns-in_err-require-clause-refusal c =
     late (outline_tests x.m x.q x.rb x.rf x.lens.now) (words_tests x.m x.q x.rb x.rf x.lens.now x.proof.now x.draws.now)
     c.in_ok-outline_refusal.ensures (grind (arith, passing))
 
-pub proof_words-requires : goal.proof_words-requires
-proof_words-requires c =
+pub overflow_cast-l : goal.overflow_cast-l
+overflow_cast-l c =
     let x = c.args in
-    (c.of-r.ensures.few, (outlined-given x.m x.q x.rb x.rf x.lens.now c.in_ok-outline_refusal.ensures).few)
+    omega (arith, (outlined-given x.m x.q x.rb x.rf x.lens.now c.in_ok-outline_refusal.ensures).few)
 
 pub returns-in_err-require-2-clause-refusal : goal.returns-in_err-require-2-clause-refusal
 unfolding checks_refusal or_refuse
