@@ -145,7 +145,8 @@ pub(crate) fn of_play(
 {
     refusal::outline_refusal(m, q, rb, rf, lens)?;
     let rounds = Rounds::of(m, q, rb, rf);
-    let sent = rounds.proof_words(lens.len());
+    let l = lens.len() as u8;
+    let sent = rounds.proof_words(l);
     of_words(t, draws, rounds.draw_words(), proof, sent)
 }
 

@@ -151,9 +151,9 @@ fn outer(s: Stage, rounds: Rounds, proof: &[u64], out: &mut [u64]) -> Stage
     requires { Few rounds }
     ensures { OuterRuns (elements proof.now) rounds.shared rounds.bin rounds.fld s out.old result out.new }
 {
-    let a = rounds.shared;
-    let b = rounds.bin;
-    let f = rounds.fld;
+    let a = rounds.shared as usize;
+    let b = rounds.bin as usize;
+    let f = rounds.fld as usize;
     let c = draw_times(s, b"vs-tau-bin", a + b, out);
     let d = draw_times(c, b"vs-tau-fld", a + f, out);
     let e = run_rounds(d, Label::Numbered(b"vs-out-shared-"), 8, a, proof, out);
@@ -197,7 +197,7 @@ fn events_to(
     };
     let rounds = Rounds::of(m, q, rb, rf);
     let a = outer(s, rounds, proof, draws);
-    let b = inner(a, rounds.inner, lens.len(), proof, draws);
+    let b = inner(a, rounds.inner as usize, lens.len(), proof, draws);
     b.transcript
 }
 

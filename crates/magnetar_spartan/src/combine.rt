@@ -36,11 +36,11 @@ fn points_among(m: usize, q: usize, sh: Shapes, d: &[u64; 256]) -> Points
     ensures { result ≡ points_at q sh.bin.a.rows sh.fld.a.rows d.now }
 {
     let rounds = Rounds::of(m, q, sh.bin.a.rows, sh.fld.a.rows);
-    let place = rounds.taus() + rounds.shared;
+    let place = rounds.taus() + rounds.shared as usize;
     Points {
         alphas: window(2 * rounds.alphas(), d),
         bin: window(2 * place, d),
-        fld: window(2 * (place + rounds.bin), d),
+        fld: window(2 * (place + rounds.bin as usize), d),
     }
 }
 

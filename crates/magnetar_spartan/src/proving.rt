@@ -55,7 +55,7 @@ fn fold_behind(s: &mut [u64], m: usize, q: usize, sh: Shapes, packed: &[u64], x:
     ensures { ValidFold q (m / 2) (log₂ q) (login_at q sh.bin.a.rows sh.fld.a.rows) (length packed.now) (length x.now) (length d.now) (length s.old) → FoldLeft q (m / 2) (log₂ q) (login_at q sh.bin.a.rows sh.fld.a.rows) packed.now x.now d.now s.old s.new }
 {
     let rounds = Rounds::of(m, q, sh.bin.a.rows, sh.fld.a.rows);
-    let n = rounds.shared.min(16);
+    let n = (rounds.shared as usize).min(16);
     let mut point = [0u64; 32];
     fold_at(
         s,
@@ -108,7 +108,9 @@ fn end(
     let rounds = Rounds::of(m, q, rb, rf);
     let a = 2 * (rounds.terminals() + 6);
     let k = 2 * (rounds.alphas() + 6);
-    let i = rounds.proof_words(lens.len().min(64)).min(proof.len());
+    let i = rounds
+        .proof_words(lens.len().min(64) as u8)
+        .min(proof.len());
     let n = rounds.draw_words().min(draws.len());
     let u = inner_part(proof, draws, s, a, k, m, lens, t);
     let _done = write_claims(m, q, rb, rf, lens, &proof[..i], &draws[..n], claims);

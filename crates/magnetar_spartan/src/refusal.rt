@@ -53,10 +53,11 @@ fn verify_lent(
     let rb = sh.bin.a.rows;
     let rf = sh.fld.a.rows;
     let rounds = Rounds::of(m, q, rb, rf);
+    let l = lens.len() as u8;
     require(n < 0x100000000, Refusal::Counter)?;
-    require(claims >= rounds.claim_words(lens.len()), Refusal::Room)?;
+    require(claims >= rounds.claim_words(l), Refusal::Room)?;
     require(scratch >= verifier_scratch(m, q, rb, rf)?, Refusal::Room)?;
-    require(proof == rounds.proof_words(lens.len()), Refusal::ProofWords)
+    require(proof == rounds.proof_words(l), Refusal::ProofWords)
 }
 
 // 14 and 15 of the prover.
@@ -76,9 +77,10 @@ fn prove_lent(
     let rb = sh.bin.a.rows;
     let rf = sh.fld.a.rows;
     let rounds = Rounds::of(m, q, rb, rf);
+    let l = lens.len() as u8;
     require(n < 0x100000000, Refusal::Counter)?;
-    require(proof >= rounds.proof_words(lens.len()), Refusal::Room)?;
-    require(claims >= rounds.claim_words(lens.len()), Refusal::Room)?;
+    require(proof >= rounds.proof_words(l), Refusal::Room)?;
+    require(claims >= rounds.claim_words(l), Refusal::Room)?;
     require(scratch >= prover_scratch(m, q, rb, rf)?, Refusal::Room)
 }
 

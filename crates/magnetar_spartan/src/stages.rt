@@ -114,7 +114,7 @@ pub(crate) fn public_half(
     ensures { (value result ≡ half_value m q sh.bin.a.rows sh.fld.a.rows x.now d.now s.old) × (s.new ≡ half_left m q sh.bin.a.rows sh.fld.a.rows x.now d.now s.old) }
 {
     let rounds = Rounds::of(m, q, sh.bin.a.rows, sh.fld.a.rows);
-    let n = rounds.shared.min(16);
+    let n = (rounds.shared as usize).min(16);
     let y = combine::inner_point(m, q, sh, d);
     let mut point = [0u64; 32];
     public_at(s, m, q, n, rounds.taus(), x, d, &mut point[..2 * n], &y)

@@ -1,3 +1,4 @@
+use native.Mathlib.Omega.{arith}
 use Rattle.magnetar_layout.proofs.Passing.{out-front, late}
 use Rattle.magnetar_protocol.specs.RunTests.{outline_tests}
 use Rattle.magnetar_protocol.proofs.Guards.{outlined-given}
@@ -12,9 +13,9 @@ returns-in_err-outline_refusal c =
     out-front (outline_tests x.m x.q x.rb x.rf x.lens.now) (later x.m x.q x.rb x.rf x.lens.now x.proof.now x.draws.now x.t) _ _
     c.from_residual.ensures.1 c.in_err-outline_refusal.ensures
 
-pub proof_words-sent-requires : goal.proof_words-sent-requires
-proof_words-sent-requires c =
-    let x = c.args in (c.of-rounds.ensures.few, (outlined-given x.m x.q x.rb x.rf x.lens.now c.in_ok-outline_refusal.ensures).few)
+pub overflow_cast-l : goal.overflow_cast-l
+overflow_cast-l c =
+    let x = c.args in omega (arith, (outlined-given x.m x.q x.rb x.rf x.lens.now c.in_ok-outline_refusal.ensures).few)
 
 pub returns : goal.returns
 unfolding play_refusal

@@ -1,3 +1,4 @@
+use native.Mathlib.Omega.{arith}
 use mathlib.Core.List.{◌++◌}
 use Prim.Native.Nat.{◌*◌}
 use Rattle.magnetar_field.specs.declared.refusal.Refusal.TheVariants.{Counter}
@@ -10,11 +11,8 @@ use Rattle.magnetar_layout.proofs.Passing.{out-front, late, required}
 use Rattle.magnetar_spartan.proofs.Chains.{roomy, prover-asks, prover-asked, proof-is, claims-are}
 use Rattle.magnetar_spartan.proofs.refusal.prove_lent.Goals as goal
 
-pub claim_words-requires : goal.claim_words-requires
-claim_words-requires c = (c.of-rounds.ensures.few, c.requires.segments)
-
-pub proof_words-requires : goal.proof_words-requires
-proof_words-requires c = (c.of-rounds.ensures.few, c.requires.segments)
+pub overflow_cast-l : goal.overflow_cast-l
+overflow_cast-l c = omega (arith, c.requires.segments)
 
 pub returns-in_err-require : goal.returns-in_err-require
 returns-in_err-require c =
