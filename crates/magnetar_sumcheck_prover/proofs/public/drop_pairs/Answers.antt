@@ -1,4 +1,4 @@
-use Rattle.std.proofs.Common.{◌≡◌, arith}
+use Rattle.std.proofs.Common.{arith}
 use Rattle.magnetar_field.specs.Words.{elements}
 use Rattle.magnetar_field.proofs.Elements.{elements-length}
 use Rattle.magnetar_field.proofs.Making.{made_none}
@@ -14,6 +14,3 @@ loop-i-preserved c =
     rw c.drop_entry.ensures
     (dropped-more x.v c.loop-i.i c.low.result c.high.result (elements x.t.now) (elements c.loop-i.t) c.loop-i.invariant
     (rw elements-length (omega arith)) c.low.ensures.0 c.high.ensures)
-
-pub returns : goal.returns
-returns c = let e : c.loop-i.i ≡ c.args.n = omega arith in rw (← e) c.loop-i.invariant.list
