@@ -1,11 +1,6 @@
 use Rattle.magnetar_prover.proofs.EqTablePlaced.{eq-table-placed}
-use lib.Seq.{length-take-le}
-use mathlib.Core.Path.{sym}
 use native.Mathlib.Omega.{arith}
 use Rattle.magnetar_prover.proofs.ends.begin_table.Goals as goal
-
-pub slice_bounds-build-end-3 : goal.slice_bounds-build-end-3
-slice_bounds-build-end-3 c = sym (length-take-le _ _ (omega arith))
 
 pub returns : goal.returns
 returns c = let x = c.args in

@@ -1,12 +1,7 @@
 use Rattle.magnetar_hash.specs.Bytes.{ascii}
 use Rattle.magnetar_prover.proofs.Drawn.{drawn-both-times}
-use lib.Seq.{length-take-le}
-use mathlib.Core.Path.{sym}
 use native.Mathlib.Omega.{arith}
 use Rattle.magnetar_prover.proofs.ends.taus.Goals as goal
-
-pub slice_bounds-tau-end-2 : goal.slice_bounds-tau-end-2
-slice_bounds-tau-end-2 c = sym (length-take-le _ _ (omega arith))
 
 pub returns : goal.returns
 returns c = let x = c.args in

@@ -1,14 +1,9 @@
-use mathlib.Core.Path.{sym}
 use Prim.Native.Nat.{◌+◌, ◌*◌, ◌≤◌}
 use native.Mathlib.Omega.{arith}
 use lib.ListN.{length}
-use lib.Seq.{length-take-le}
 use Rattle.magnetar_field.specs.Gf128.{value}
 use Rattle.magnetar_prover.proofs.Bound.{two-bound}
 use Rattle.magnetar_prover.proofs.inner.bind.Goals as goal
-
-pub slice_bounds-bind_var-end-2 : goal.slice_bounds-bind_var-end-2
-slice_bounds-bind_var-end-2 c = sym (length-take-le _ _ (omega arith))
 
 pub returns : goal.returns
 returns c =

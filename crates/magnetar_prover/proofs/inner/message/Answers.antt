@@ -10,9 +10,6 @@ use Rattle.magnetar_prover.proofs.Slots.{part-is, part-size}
 use Rattle.magnetar_prover.proofs.Whole.{inner-written}
 use Rattle.magnetar_prover.proofs.inner.message.Goals as goal
 
-pub slice_bounds-inner_message-end : goal.slice_bounds-inner_message-end
-slice_bounds-inner_message-end c = sym (length-take-le _ _ (omega arith))
-
 pub returns : goal.returns
 returns c =
     let x = c.args in

@@ -2,20 +2,12 @@ use Prim.Native.Nat.{◌*◌, ◌+◌, ◌≤◌}
 use Rattle.magnetar_field.specs.Gf128.{value}
 use Rattle.magnetar_prover.proofs.InnerSteps.{inner-stepped, inner-three}
 use Rattle.magnetar_prover.proofs.Sent.{drawn-more, sent-more, sent-there}
-use Rattle.magnetar_prover.proofs.Slots.{part-size}
 use Rattle.magnetar_prover.specs.Entries.{table_at}
 use Rattle.magnetar_sumcheck_verifier.specs.Inner.{inner_message}
 use lib.ListN.{length}
 use mathlib.Core.Path.{◌∙◌, ◌≡◌, ap, refl}
 use native.Mathlib.Omega.{arith}
 use Rattle.magnetar_prover.proofs.inner.round.Goals as goal
-
-pub message-requires : goal.message-requires
-message-requires c = record {
-  s_len = c.requires.s_len;
-  table = c.requires.table;
-  out_len = part-size c.args.proof.now (6 * c.args.i) 6 c.requires.i_bound.1;
-}
 
 pub returns : goal.returns
 returns c =

@@ -2,13 +2,8 @@ use Prim.Native.Nat.{◌*◌, ◌≤◌}
 use Rattle.magnetar_prover.proofs.Segments.{segment-is}
 use Rattle.magnetar_prover.proofs.Slots.{part-is}
 use lib.ListN.{length}
-use lib.Seq.{length-take-le}
-use mathlib.Core.Path.{sym}
 use native.Mathlib.Omega.{arith}
 use Rattle.magnetar_prover.proofs.inner.segment_dot.Goals as goal
-
-pub slice_bounds-segment-end : goal.slice_bounds-segment-end
-slice_bounds-segment-end c = sym (length-take-le _ _ (omega arith))
 
 pub returns : goal.returns
 returns c = let x = c.args in

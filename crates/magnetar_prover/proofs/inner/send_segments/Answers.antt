@@ -1,27 +1,14 @@
 use Prim.Native.Nat.{◌*◌, ◌+◌, ℕ}
-use Rattle.magnetar_field.specs.Tabulate.{tabulate}
 use Rattle.magnetar_field.specs.Words.{elements}
 use Rattle.magnetar_schedule.specs.Schedule.{numbered}
-use Rattle.magnetar_prover.proofs.Segments.{each-done, each_more, each-start-at}
+use Rattle.magnetar_prover.proofs.Segments.{each-done, each_more}
 use Rattle.magnetar_prover.specs.Entries.{table_at}
 use Rattle.magnetar_prover.specs.InScratch.{absorbed_one, sent_in, segment_in}
 use lib.ListN.{length, take}
 use mathlib.Core.List.{List, [], ◌++◌, ◌∷◌}
-use mathlib.Core.Path.{◌∙◌, ap, refl}
+use mathlib.Core.Path.{◌∙◌, ap}
 use native.Mathlib.Omega.{arith}
 use Rattle.magnetar_prover.proofs.inner.send_segments.Goals as goal
-
-pub loop-i-init : goal.loop-i-init
-loop-i-init c = let x = c.args in (
-  refl,
-  each-start-at "vs-seg-" (tabulate (segment_in x.lens.now (table_at 0 (2 * x.w) x.s.now) (elements x.draws.now)) (length x.lens.now)) x.k x.t x.proof.now,
-)
-
-pub send_segment-u-requires : goal.send_segment-u-requires
-send_segment-u-requires c = let l = c.loop-i in let p = c.requires in record {
-  p_bound = (omega arith, omega arith, omega arith, p.k_bound.4, omega arith, omega arith);
-  local = p.locals.each l.i (omega arith);
-}
 
 pub loop-i-preserved : goal.loop-i-preserved
 loop-i-preserved c = let l = c.loop-i in

@@ -4,7 +4,6 @@ use Rattle.magnetar_field.specs.Gf128.{value}
 use Rattle.magnetar_field.specs.Words.{elements}
 use Rattle.magnetar_prover.proofs.RowSteps.{outer-four, row_done}
 use Rattle.magnetar_prover.proofs.Sent.{sent-more, sent-there}
-use Rattle.magnetar_prover.proofs.Slots.{part-size}
 use Rattle.magnetar_prover.specs.Entries.{table_at}
 use Rattle.magnetar_sumcheck_verifier.specs.Outer.{drop_var, outer_message}
 use Rattle.magnetar_prover.specs.Labels.{row_label}
@@ -12,18 +11,6 @@ use lib.ListN.{length}
 use mathlib.Core.Path.{◌∙◌, refl}
 use native.Mathlib.Omega.{arith}
 use Rattle.magnetar_prover.proofs.outer.row.Goals as goal
-
-pub message-requires : goal.message-requires
-message-requires c = let x = c.args in let p = c.requires in record {
-  s_len = (p.s_len.0, p.s_len.1, p.s_len.2, part-size x.proof.now (2 * x.p) 8 p.s_len.4);
-  table = p.rows.table;
-}
-
-pub end-k-requires : goal.end-k-requires
-end-k-requires c = let p = c.requires in record {
-  s_len = (c.message.auto.s ∙ p.s_len.0, p.s_len.1, p.s_len.2, p.s_len.5);
-  table = p.rows.table;
-}
 
 pub returns : goal.returns
 returns c = let x = c.args in

@@ -1,15 +1,8 @@
 use Rattle.magnetar_field.specs.Gf128.{value}
-use Rattle.magnetar_prover.proofs.RowSteps.{rowing-end, rowing-next, rowing-rows, rowing_start}
+use Rattle.magnetar_prover.proofs.RowSteps.{rowing-end, rowing-next, rowing-rows}
 use Rattle.magnetar_prover.specs.Labels.{row_label}
 use native.Mathlib.Omega.{arith}
 use Rattle.magnetar_prover.proofs.outer.rows.Goals as goal
-
-pub loop-i-init : goal.loop-i-init
-loop-i-init c = let x = c.args in (
-  c.requires.s_len.2,
-  rowing_start
-      (row_label x.of) x.x x.at.n x.p x.d x.o (value x.at.k) x.at.w x.t x.proof.now x.draws.now x.s.now c.requires.n_value,
-)
 
 pub row-r-requires : goal.row-r-requires
 row-r-requires c = let x = c.args in let p = c.requires.s_len in let l = c.loop-i in record {

@@ -1,13 +1,9 @@
-use mathlib.Core.Path.{sym}
 use Prim.Native.Nat.{◌+◌, ◌-◌, ◌*◌}
 use native.Mathlib.Omega.{arith}
 use lib.ListN.{length, drop, length-drop}
-use lib.Seq.{length-take-le, take_all}
+use lib.Seq.{take_all}
 use Rattle.magnetar_prover.proofs.OuterParts.{end-left}
 use Rattle.magnetar_prover.proofs.rounds.end.Goals as goal
-
-pub slice_bounds-terminals-end : goal.slice_bounds-terminals-end
-slice_bounds-terminals-end c = sym (length-take-le _ _ (omega (arith, c.requires.blocks)))
 
 pub returns : goal.returns
 returns c = end-left c.args.z.l c.args.z.b c.args.z.f c.args.z.wb c.args.z.wf (omega (arith, c.requires.bin_few)) (omega (

@@ -1,4 +1,4 @@
-use mathlib.Core.Path.{◌≡◌, sym, ap, ◌∙◌}
+use mathlib.Core.Path.{◌≡◌, ap, ◌∙◌}
 use Prim.Native.Nat.{◌+◌, ◌*◌}
 use native.Mathlib.Omega.{arith}
 use lib.ListN.{length}
@@ -9,9 +9,6 @@ use Rattle.magnetar_field.proofs.Elements.{elements-length}
 use Rattle.magnetar_prover.proofs.Blocks.{lent-behind, rest-length}
 use Rattle.magnetar_prover.proofs.OuterParts.{rows_left}
 use Rattle.magnetar_prover.proofs.rounds.rows.Goals as goal
-
-pub slice_bounds-rows-end-2 : goal.slice_bounds-rows-end-2
-slice_bounds-rows-end-2 c = sym (length-take-le _ _ (omega (arith, c.requires.blocks)))
 
 pub rows-u-requires : goal.rows-u-requires
 rows-u-requires c = let p = c.requires in record {

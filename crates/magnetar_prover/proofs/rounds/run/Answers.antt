@@ -4,19 +4,8 @@ use native.Mathlib.Omega.{arith}
 use lib.ListN.{take, drop, replicate}
 use Rattle.magnetar_field.specs.Gf128.{value}
 use Rattle.magnetar_prover.specs.Entries.{tables_in}
-use Rattle.magnetar_prover.proofs.OuterGuard.{blocks-same}
 use Rattle.magnetar_prover.proofs.OuterParts.{all_left}
 use Rattle.magnetar_prover.proofs.rounds.run.Goals as goal
-
-pub first-u-requires : goal.first-u-requires
-first-u-requires c = c.requires
-
-pub rows-v-requires : goal.rows-v-requires
-rows-v-requires c = blocks-same c.first-u.auto.proof c.first-u.auto.draws c.first-u.auto.s c.requires
-
-pub end-r-requires : goal.end-r-requires
-end-r-requires c = blocks-same (c.rows-v.auto.proof ∙ c.first-u.auto.proof) (c.rows-v.auto.draws ∙ c.first-u.auto.draws) (c.rows-v.auto.s
-    ∙ c.first-u.auto.s) c.requires
 
 pub returns : goal.returns
 returns c = record {

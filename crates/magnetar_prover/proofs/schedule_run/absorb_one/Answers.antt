@@ -2,11 +2,8 @@ use mathlib.Core.Path.{refl}
 use Prim.Native.Nat.{ℕ, ◌^◌, ◌<◌}
 use lib.ListN.{get_or}
 use native.Mathlib.Omega.{arith}
-use Rattle.magnetar_prover.proofs.Staging.{over, absorbed-one, part-words, part-next}
+use Rattle.magnetar_prover.proofs.Staging.{absorbed-one, part-words, part-next}
 use Rattle.magnetar_prover.proofs.schedule_run.absorb_one.Goals as goal
-
-pub returns-then-s-eq0 : goal.returns-then-s-eq0
-returns-then-s-eq0 c = λ next out was whole rest g. over c.if-s-eq0.true g
 
 pub returns : goal.returns
 returns c =

@@ -1,9 +1,6 @@
 use native.Mathlib.Omega.{arith}
-use Rattle.magnetar_prover.proofs.Staging.{over, drawn-one}
+use Rattle.magnetar_prover.proofs.Staging.{drawn-one}
 use Rattle.magnetar_prover.proofs.schedule_run.draw_one.Goals as goal
-
-pub returns-then-s-eq0 : goal.returns-then-s-eq0
-returns-then-s-eq0 c = λ w next was whole rest g. over c.if-s-eq0.true g
 
 pub returns : goal.returns
 returns c = λ w next was whole rest g.

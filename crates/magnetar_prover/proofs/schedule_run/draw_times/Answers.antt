@@ -1,13 +1,7 @@
 use native.Mathlib.Omega.{arith}
-use Rattle.magnetar_prover.proofs.Turns.{times-start, times_more, times-end}
+use Rattle.magnetar_prover.proofs.Turns.{times_more}
 use borrow.Author.Rules.{rules}
 use Rattle.magnetar_prover.proofs.schedule_run.draw_times.Goals as goal
 
-pub loop-i-init : goal.loop-i-init
-loop-i-init c = times-start _ _ _ _
-
 pub loop-i-preserved : goal.loop-i-preserved
 loop-i-preserved c = times_more c.loop-i.invariant (omega arith) (search rules) c.draw_one-u.ensures
-
-pub returns : goal.returns
-returns c = times-end c.loop-i.invariant (omega arith)

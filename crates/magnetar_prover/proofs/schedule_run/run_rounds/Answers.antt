@@ -1,9 +1,6 @@
 use Rattle.std.proofs.Common.{rules, arith}
-use Rattle.magnetar_prover.proofs.Turns.{rounds-start, rounds-more, rounds-end}
+use Rattle.magnetar_prover.proofs.Turns.{rounds-more, rounds-end}
 use Rattle.magnetar_prover.proofs.schedule_run.run_rounds.Goals as goal
-
-pub loop-i-init : goal.loop-i-init
-loop-i-init c = rounds-start _ _ _ _ _ _
 
 pub loop-i-preserved : goal.loop-i-preserved
 loop-i-preserved c = rounds-more c.loop-i.invariant (omega arith) (search rules) c.round-u.ensures

@@ -1,48 +1,15 @@
-use Prim.Native.Nat.{◌*◌, ◌+◌, ℕ}
+use Prim.Native.Nat.{◌*◌, ℕ}
 use Rattle.magnetar_field.specs.Gf128.{value}
 use Rattle.magnetar_field.specs.Words.{words}
 use Rattle.magnetar_prover.proofs.Blocks.{behind-dropped, both-sent, both-there, front-dropped, lent-behind, rest-length}
 use Rattle.magnetar_prover.proofs.RowSteps.{outer-four}
-use Rattle.magnetar_prover.proofs.Slots.{mid-length, part-size}
 use Rattle.magnetar_prover.specs.Shared.{message_in}
 use lib.ListN.{drop, length, take}
 use lib.Seq.{length-take-le}
 use mathlib.Core.List.{List}
-use mathlib.Core.Path.{◌∙◌, ◌≡◌, ap, sym}
+use mathlib.Core.Path.{◌∙◌, ◌≡◌, ap}
 use native.Mathlib.Omega.{arith}
 use Rattle.magnetar_prover.proofs.shared.send_messages.Goals as goal
-
-pub slice_bounds-message-end-3 : goal.slice_bounds-message-end-3
-slice_bounds-message-end-3 c = sym (length-take-le _ _ (omega arith))
-
-pub message-requires : goal.message-requires
-message-requires c = let x = c.args in let p = c.requires in record {
-  s_len = (
-    length-take-le _ _
-        (omega arith),
-    p.s_len.1,
-    p.s_len.3,
-    part-size x.proof.now (2 * x.p) 8 (omega arith),
-  );
-  table = p.table.0;
-}
-
-pub message-requires-2 : goal.message-requires-2
-message-requires-2 c = let x = c.args in
-    let p = c.requires in
-    let one : length c.message.new.s ≡ 4 * x.bin.w = c.message.auto.s ∙ length-take-le _ _ (omega arith) in
-    let l : length c.message.new.out ≡ 8 = c.message.auto.out ∙ part-size x.proof.now (2 * x.p) 8 (omega arith) in
-    let m = mid-length x.proof.now c.message.new.out (2 * x.p) 8 (omega arith) l in record {
-      s_len = (
-        ap length (lent-behind x.s.now c.message.new.s (4 * x.bin.w) (4 * x.fld.w) p.s_len.0
-            one) ∙ rest-length x.s.now c.message.new.s (4 * x.bin.w) (4 * x.fld.w) p.s_len.0
-            one,
-        p.s_len.2,
-        p.s_len.4,
-        part-size _ (2 * x.p + 8) 8 (omega (arith, m)),
-      );
-      table = p.table.1;
-    }
 
 pub returns : goal.returns
 returns c = let x = c.args in

@@ -5,41 +5,13 @@ use Rattle.magnetar_field.specs.Words.{elements}
 use Rattle.magnetar_hash.specs.Bytes.{word_bytes}
 use Rattle.magnetar_hash.specs.Transcript as transcript
 use Rattle.magnetar_schedule.specs.Schedule.{numbered}
-use Rattle.magnetar_prover.proofs.SharedSteps.{high-table, shared-done}
+use Rattle.magnetar_prover.proofs.SharedSteps.{shared-done}
 use Rattle.magnetar_prover.proofs.Slots.{part-is}
 use lib.ListN.{length}
 use mathlib.Core.List.{List}
 use mathlib.Core.Path.{◌∙◌, ap}
 use native.Mathlib.Omega.{arith}
 use Rattle.magnetar_prover.proofs.shared.shared_round.Goals as goal
-
-pub send_messages-requires : goal.send_messages-requires
-send_messages-requires c = let p = c.requires in record {
-  s_len = (p.s_len.0, p.s_len.1, p.s_len.2, p.s_len.3, p.s_len.4, p.s_len.5, p.s_len.6);
-  table = (high-table p.shared.0, high-table p.shared.1);
-}
-
-pub overflow_mul-a : goal.overflow_mul-a
-overflow_mul-a c = omega (arith, c.requires.s_len.5)
-
-pub overflow_add-e : goal.overflow_add-e
-overflow_add-e c = omega (arith, c.requires.s_len.5)
-
-pub offset_bounds-proof-a : goal.offset_bounds-proof-a
-offset_bounds-proof-a c = omega (arith, c.requires.s_len.5)
-
-pub slice_bounds-shared_round-end : goal.slice_bounds-shared_round-end
-slice_bounds-shared_round-end c = omega (arith, c.requires.s_len.6, c.send_messages.auto.proof)
-
-pub end_both-requires : goal.end_both-requires
-end_both-requires c = let p = c.requires in record {
-  s_len = (c.send_messages.auto.s ∙ p.s_len.0, p.s_len.1, p.s_len.2, p.s_len.3, p.s_len.4, p.s_len.7);
-  table = (
-    high-table
-        p.shared.0,
-    high-table p.shared.1,
-  );
-}
 
 pub returns : goal.returns
 returns c = let x = c.args in

@@ -1,13 +1,9 @@
 use Prim.Native.Nat.{◌*◌, ◌≤◌}
 use Rattle.magnetar_prover.proofs.Bound.{eq-behind, eq-dropped, eq-rest}
 use lib.ListN.{length}
-use lib.Seq.{length-take-le}
-use mathlib.Core.Path.{◌∙◌, sym}
+use mathlib.Core.Path.{◌∙◌}
 use native.Mathlib.Omega.{arith}
 use Rattle.magnetar_prover.proofs.outer.Turn.message.Goals as goal
-
-pub slice_bounds-drop_var-end-2 : goal.slice_bounds-drop_var-end-2
-slice_bounds-drop_var-end-2 c = sym (length-take-le _ _ (omega arith))
 
 pub returns : goal.returns
 returns c = let x = c.args in

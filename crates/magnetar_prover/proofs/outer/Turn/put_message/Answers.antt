@@ -8,9 +8,6 @@ use mathlib.Core.Path.{◌∙◌, ◌≡◌, ap, sym}
 use native.Mathlib.Omega.{arith}
 use Rattle.magnetar_prover.proofs.outer.Turn.put_message.Goals as goal
 
-pub slice_bounds-outer_message-end : goal.slice_bounds-outer_message-end
-slice_bounds-outer_message-end c = sym (length-take-le _ _ (omega arith))
-
 pub returns : goal.returns
 returns c = let x = c.args in
     let p = c.requires in
