@@ -1,23 +1,10 @@
-// The tests of sizes and lengths, and the step from one refusal's number to the next: an earlier number stays.
+// The tests of sizes and lengths.
 ghost use Rattle.std.specs.Prelude.{◌≡◌};
 ghost use Rattle.magnetar_layout.specs.Every.{every};
 ghost use Rattle.magnetar_layout.specs.Layout.{is_length};
-ghost use Rattle.magnetar_layout.specs.Tests.{or_refuse, is_size};
+ghost use Rattle.magnetar_layout.specs.Tests.{is_size};
 
 use magnetar_field::sizes;
-
-// z if it is a refusal already, else n where the test is bad.
-pub fn refuse(z: u32, n: u32, bad: bool) -> u32
-    ensures { result ≡ or_refuse n bad z }
-{
-    if z != 0 {
-        return z;
-    }
-    if bad {
-        return n;
-    }
-    0
-}
 
 // n is a power of two from least to most.
 #[tactic(auto, using(std::proofs::lemmas::Bool::Decides::nat_tests), unfolding(crate::specs::Tests::is_size))]
