@@ -1,11 +1,10 @@
 // What goes wrong: a word of the proof, public words chosen after it, other bits than the committed ones, a login, public columns, padding
 // bits between two segments, a size.
-use crate::opened;
 use crate::opened::Claims;
-use crate::rules;
 use crate::rules::{Rules, Sent};
 use crate::said::{Answer, Out, Verdict};
 use crate::vault::{Batch, LOGINS, Login};
+use crate::{opened, rules};
 use anyhow::Result;
 use magnetar_hash::transcript;
 use magnetar_hash::transcript::Transcript;

@@ -134,7 +134,11 @@ impl Case {
 }
 
 // A line `alone` where a call was not asked of records, and a line `differ` where it answered something else there.
-pub(crate) fn compare<A: PartialEq>(out: &mut Out, answer: &A, again: &Option<A>) -> io::Result<()> {
+pub(crate) fn compare<A: PartialEq>(
+    out: &mut Out,
+    answer: &A,
+    again: &Option<A>,
+) -> io::Result<()> {
     match again {
         None => writeln!(out, "alone"),
         Some(again) => {

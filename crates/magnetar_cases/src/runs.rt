@@ -237,15 +237,7 @@ pub(crate) fn answer(
         b"rooms" => {
             let proof = line::list_from(nums, 3, 0);
             for s in line::list_from(nums, 3, 1).iter().take(8) {
-                verify(
-                    alloc,
-                    out,
-                    line::size(nums, 2),
-                    *s as usize,
-                    case,
-                    proof,
-                    t,
-                )?;
+                verify(alloc, out, line::size(nums, 2), *s as usize, case, proof, t)?;
             }
         }
         _ => return Ok(false),
