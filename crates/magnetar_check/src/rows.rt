@@ -16,6 +16,7 @@ pub(crate) fn first_failing(s: &[u64], n: usize) -> Option<usize>
     }
     for row in 0..n {
         let p = gf128::mul(words::get(s, row), words::get(s, n + row));
+        // By name, for its law: it speaks of elements, and == of words.
         if !gf128::equal(p, words::get(s, 2 * n + row)) {
             return Some(row);
         }

@@ -15,13 +15,6 @@ pub struct Gf128 {
     pub hi: u64,
 }
 
-// An element, or the number of a refusal.
-#[derive(Clone, Copy)]
-pub enum Evaluated {
-    Value(Gf128),
-    Refused(u32),
-}
-
 pub const ZERO: Gf128 = Gf128 { lo: 0, hi: 0 };
 
 pub const ONE: Gf128 = Gf128 { lo: 1, hi: 0 };

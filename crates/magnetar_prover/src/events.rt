@@ -14,7 +14,7 @@ pub(crate) enum System {
     Fld,
 }
 
-// Writes the decimal digits of n at the end of `out`, and answers where they begin.
+// Writes the decimal digits of n at the end of `out`, and answers where they begin. The loop follows the rest of n, which is no count.
 fn put_digits(out: &mut [u8], n: usize) -> usize
     requires { length out.old ≡ 48 }
     ensures { (28 ≤ result) × (result ≤ 48) × (drop result out.new ≡ decimal 20 n) }

@@ -45,6 +45,7 @@ pub(crate) fn play(
 {
     let rb = sh.bin.a.rows;
     let rf = sh.fld.a.rows;
+    // The words of the draws, of which the specification keeps 256: no heap.
     let mut draws = [0u64; 256];
     let u = schedule_run::run_events(m, q, rb, rf, lens, proof, &mut draws, t, to).unwrap_or(t);
     Played {

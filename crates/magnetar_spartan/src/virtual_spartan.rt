@@ -123,6 +123,7 @@ pub fn prove_virtual_spartan<E: Entries>(
     let rb = sh.bin.a.rows;
     let rf = sh.fld.a.rows;
     products::products(scratch, m, q, sh, es, packed, x);
+    // The words of the draws, of which the specification keeps 256: no heap.
     let mut draws = [0u64; 256];
     let u = outer_rounds(q, rb, rf, out, &mut draws, scratch, t)?;
     combine::combine_at(scratch, m, q, sh, &draws, es);
