@@ -5,7 +5,7 @@
     docs/layers.py --check    says whether it is up to date (exit status 1 where it is not)
 
 A line leads to a crate that is used, unless another line leads there already by way of a third crate; those of programs are dashed. Places and words are below; what
-stands on what is read off the files: a crate that crates.txt names for the order of the checks alone gets no line.
+stands on what is read off the files.
 """
 import html
 import pathlib
@@ -17,38 +17,38 @@ WIDE, HIGH, GAP_X, GAP_Y = 196, 44, 22, 34
 
 # name: column, row from below, kind, what it holds
 PLACES = {
-    "magnetar_field": (1, 0, "core", "GF(2^128)"),
-    "magnetar_keccak": (2, 1, "core", "Keccak-f[1600]"),
+    "magnetar_field": (1, 0, "core", "GF(2^128), refusals"),
+    "magnetar_keccak": (2.4, 1, "core", "Keccak-f[1600]"),
     "magnetar_theory": (0, 1, "laws", "Spartan over any field"),
     "magnetar_multilinear": (1, 1, "core", "eq and multilinear tables"),
-    "magnetar_hash": (2, 2, "core", "SHA3-256, the transcript"),
+    "magnetar_hash": (2.6, 2, "core", "SHA3-256, the transcript"),
     "magnetar_sumcheck_verifier": (0, 2, "core", "rounds, the verifier's side"),
     "magnetar_layout": (1, 2, "core", "layouts, tests of sizes"),
-    "magnetar_matrix": (1, 3, "core", "matrices, batches, steps"),
-    "magnetar_transcript": (2.5, 3, "form", "the transcript in place"),
+    "magnetar_matrix": (1, 3, "core", "matrices, batches, entries"),
     "magnetar_protocol": (0.5, 4, "laws", "the run; both theorems"),
-    "magnetar_r1cs": (2, 4, "core", "products, masks"),
+    "magnetar_r1cs": (2.2, 4, "core", "products, masks"),
     "magnetar_sumcheck_prover": (0, 5, "core", "the prover's messages"),
     "magnetar_schedule": (1, 5, "laws", "what is absorbed and drawn"),
     "magnetar_relation": (2, 5, "core", "a relation, lent once"),
+    "magnetar_transcript": (3.2, 5, "form", "the transcript in place"),
+    "magnetar_replay": (4.7, 5, "host", "what replaying programs share"),
     "magnetar_verifier": (0.5, 6, "core", "checks 21 to 29, claims"),
     "magnetar_prover": (1.5, 6, "core", "the schedule run, rounds"),
-    "magnetar_records": (2.6, 6, "form", "matrices as records"),
+    "magnetar_check": (3.2, 6, "core", "the row check"),
+    "magnetar_digest": (4.2, 6, "core", "a digest of a relation"),
+    "magnetar_forms": (5.2, 6, "host", "functions in both forms"),
     "magnetar_batch": (2.2, 7, "core", "folds, combined table"),
-    "magnetar_check": (3.2, 7, "core", "the row check"),
-    "magnetar_digest": (4.2, 7, "core", "a digest of a relation"),
-    "magnetar_forms": (4.2, 8, "host", "functions through the forms"),
     "magnetar_spartan": (1.2, 8, "core", "prover and verifier"),
-    "magnetar_vectors": (0, 8, "host", "recorded answers of functions"),
-    "demo": (0.6, 9, "host", "a vault of four logins"),
-    "magnetar_c": (1.6, 9, "host", "the library for C and Rust"),
-    "magnetar_cases": (2.6, 9, "host", "recorded runs"),
-    "magnetar_limits": (3.6, 9, "host", "the most columns"),
+    "magnetar_vectors": (5.2, 8, "host", "recorded answers of functions"),
+    "demo": (3, 9, "host", "a vault of four logins"),
+    "magnetar_c": (2, 9, "host", "the library for C and Rust"),
+    "magnetar_cases": (4, 9, "host", "recorded runs"),
+    "magnetar_limits": (5, 9, "host", "the most columns"),
 }
 KINDS = {
     "laws": ("#e8e2f4", "definitions and theorems"),
     "core": ("#dbe8f7", "the proved core"),
-    "form": ("#dff0e0", "the same over entry records and in place"),
+    "form": ("#dff0e0", "the same in place"),
     "host": ("#f6ead2", "programs, what they lend, the library to link"),
 }
 
