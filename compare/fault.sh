@@ -86,19 +86,21 @@ if [ ${#wanted[@]} -eq 0 ]; then
     echo "no fault: $(tail -n 1 "$copy/said")"
 fi
 # round one is checked, row rounds and inner rounds are not checked
-fault later-rounds magnetar_verifier/src/found.rt 'next.holds' 'true'
+fault later-rounds magnetar_verifier/src/found.rt 'next.holds' \
+    'next.holds || (refusal != Refusal::SharedBin && refusal != Refusal::SharedFld)'
 # the last identity compares low words only
-fault high-words magnetar_verifier/src/end.rt 'gf128::equal(gf128::add(x, y), v)' $'let s = gf128::add(x, y);\n    s.lo == v.lo'
+fault high-words magnetar_verifier/src/end.rt '    x + y == v' $'    let s = x + y;\n    s.lo == v.lo'
 # the remainder of a product forgets a bit
 fault remainder magnetar_field/src/gf128.rt '(t.w3 >> 57)' '(t.w3 >> 58)'
 # an eq table begins with 1, whatever it is to start from
 fault start magnetar_multilinear/src/eq.rt 'words::put(out, 0, start);' 'words::put(out, 0, ONE);'
 # a counter of 2^32 is let through
-fault counter magnetar_spartan/src/refusal.rt '!(n < 0x100000000)' '!(n < 0x100000001)'
+fault counter magnetar_spartan/src/refusal.rt $'require(n < 0x100000000, Refusal::Counter)?;\n    require(claims' \
+    $'require(n < 0x100000001, Refusal::Counter)?;\n    require(claims'
 # an absorption takes a counter of 2^32
-fault late-absorption magnetar_hash/src/transcript.rt 'if old.squeeze_ctr < COUNTER_LIMIT {' 'if old.squeeze_ctr <= COUNTER_LIMIT {'
+fault late-absorption magnetar_hash/src/transcript.rt 'headed(on_time(t)?, b"absorb", label)' 'headed(t, b"absorb", label)'
 # a later equal entry replaces an earlier one
-fault later-entry magnetar_matrix/src/step.rt 'words::put(out, k, gf128::add(v, e));' 'words::put(out, k, e);'
+fault later-entry magnetar_matrix/src/step.rt 'words::put(out, k, words::get(out, k) + e);' 'words::put(out, k, e);'
 # bits past the columns of a login are read
 fault upper-bits magnetar_batch/src/fold.rt 'word % (1 << n)' 'word'
 # one round constant of the permutation
@@ -106,27 +108,29 @@ fault round-constant magnetar_keccak/src/keccak.rt 0x8000000080008000 0x80000000
 # a label
 fault label magnetar_prover/src/events.rt 'b"vs-vz"' 'b"vs-vx"'
 # numbers of entries that don't add up to the slices are let through
-fault counts magnetar_relation/src/rules.rt 'let n = entries_in(b) + entries_in(f);' 'let n = r;'
+fault counts magnetar_relation/src/rules.rt 'numbers(entries_in(s.bin) + entries_in(s.fld), counts)?;' 'numbers(counts[0], counts)?;'
 # the entries of fld begin behind as many entries of C of bin as B has
 fault border magnetar_relation/src/range.rt 'after(b, t.c.entries, n)' 'after(b, t.b.entries, n)'
 # the second matrix of a system takes the third one's alpha
 fault record-alpha magnetar_batch/src/combo.rt 'add_matrix(s, m, n, al, k + 1, p, &b);' 'add_matrix(s, m, n, al, k + 2, p, &b);'
 # the verifier's scratch: the former number of words is asked for; all words of the former formula are cleared where they are lent
-fault former-scratch magnetar_protocol/src/scratch.rt '    2 * m + 2 * sizes::larger(rb, rf) + 2 * q' '    4 * m + 4 * sizes::larger(rb, rf) + 2 * q'
-fault former-cleared magnetar_spartan/src/stages.rt 'step::clear_front(i + q, s);' 'step::clear_front(sizes::least(2 * i + q, h), s);'
+fault former-scratch magnetar_protocol/src/scratch.rt '    2 * m + 2 * rb.max(rf) + 2 * q' '    4 * m + 4 * rb.max(rf) + 2 * q'
+fault former-cleared magnetar_spartan/src/stages.rt 'let n = m.saturating_add(rows).saturating_add(q);' \
+    'let n = (2 * m + 2 * rows + q).min(s.len() / 2);'
 # the verifier's value of the combined table: the second matrix of a system takes the first one's alpha; the row point's order is reversed
 fault one-alpha magnetar_batch/src/value.rt 'words::get(&al, i + 1)' 'words::get(&al, i)'
 fault row-point magnetar_batch/src/value.rt 'words::get(p, j)' 'words::get(p, n - 1 - j)'
 # the third matrix's entries count for the second
 fault record-rows magnetar_batch/src/eval.rt 'let y = matrix_value(s, k, m, n, p, &b);' 'let y = matrix_value(s, k, m, n, p, &c);'
-# public columns of login 0 for every login: in the packed products, in the folded public half, in the row check and over records
-fault first-products magnetar_r1cs/src/r1cs.rt 'if columns::repeats(x, l) {' 'if l <= x.len() {'
+# public columns of login 0 for every login: in the packed products, in the folded public half, in the row check
+fault first-products magnetar_r1cs/src/r1cs.rt 'if within || columns::repeats(x, l) {' 'if within || l <= x.len() {'
 fault first-half magnetar_batch/src/fold.rt '&x[u * l..]' '&x[0 * l..]'
 fault first-login magnetar_relation/src/login.rt 'let a = login_start(u, k, x.len());' 'let a = login_start(0, k, x.len());'
-# stray bits: a failing row is told before them; the highest column of a word is told; only the first word of a login is looked at; the
+# stray bits: a failing row of bin is told before them; the highest column of a word is told; only the first word of a login is looked at; the
 # row check takes any segments
-fault rows-first magnetar_check/src/check.rt $'    r.kind == 0\n}' $'    r.kind % 3 == 0\n}'
-fault highest-column magnetar_relation/src/stray.rt 'u64::trailing_zeros(v) as usize' '(63 - u64::leading_zeros(v)) as usize'
-fault first-word magnetar_relation/src/stray.rt 'while k < words.len() {' 'while k < sizes::least(words.len(), 1) {'
-fault any-segments magnetar_check/src/check.rt 'layout::refusal(m / 2, lens)' '0'
+fault rows-first magnetar_check/src/check.rt 'return RowCheck::Stray(bit.login, bit.column);' \
+    'return first_failing(s, q, of, sh.bin, 0, es).map_or(RowCheck::Stray(bit.login, bit.column), |f| RowCheck::Bin(f.login, f.row));'
+fault highest-column magnetar_relation/src/stray.rt 'common.trailing_zeros() as usize' '(63 - common.leading_zeros()) as usize'
+fault first-word magnetar_relation/src/stray.rt 'if common != 0 {' 'if common != 0 && k == 0 {'
+fault any-segments magnetar_check/src/check.rt 'layout::refusal(m / 2, lens)' 'layout::refusal(m / 2, lens).or(Ok(()))'
 exit $missed
