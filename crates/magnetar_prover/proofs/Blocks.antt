@@ -10,7 +10,7 @@ use lib.Dec.{lit≤}
 use borrow.Rule.Slice.PartMut.{put_mid}
 use Rattle.magnetar_field.specs.Words.{elements, words}
 use Rattle.magnetar_field.proofs.Elements.{words-length}
-use Rattle.magnetar_prover.specs.Shared.{Dropped, Folded}
+use Rattle.magnetar_prover.specs.Shared.{Dropped}
 use Rattle.magnetar_prover.proofs.Slots.{take-of-drop, part-is, mid-length, mid-front, mid-upto, mid_at, fore-length, fore-in, fore-back}
 use Rattle.magnetar_prover.proofs.Sent.{elements-take, elements-after}
 
@@ -57,12 +57,6 @@ module _ (s t u : List ℕ) (q n : ℕ) (size : length s ≡ q + n) (one : lengt
 
   pub behind-dropped : {v w m : ℕ} → Dropped v w m (take (q + n - q) (drop q s₁)) u → Dropped v w m (drop q s) (drop q s₂)
   behind-dropped g = rw (both_behind, ← lent-behind s t q n size one) g
-
-  pub front-folded : {v r w m : ℕ} → Folded v r w m (take q s) t → Folded v r w m (take q s) (take q s₂)
-  front-folded g = rw both-front g
-
-  pub behind-folded : {v r w m : ℕ} → Folded v r w m (take (q + n - q) (drop q s₁)) u → Folded v r w m (drop q s) (drop q s₂)
-  behind-folded g = rw (both_behind, ← lent-behind s t q n size one) g
 
 words-join : (v w : List ℕ) → words v ++ words w ≡ words (v ++ w)
 unfolding words

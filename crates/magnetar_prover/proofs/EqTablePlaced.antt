@@ -21,7 +21,7 @@ use Rattle.magnetar_matrix.proofs.TableLaws.{elements-words}
 use Rattle.magnetar_sumcheck_verifier.specs.Messages.{outer_start}
 use Rattle.magnetar_prover.specs.Entries.{table_at}
 use Rattle.magnetar_prover.specs.InScratch.{outer_in, absorbed_one, Sent, sent_in, sent_each, three_in, EqTablePlaced}
-use Rattle.magnetar_prover.proofs.Slots.{part-size, part-is, fore-back, fore-length, mid-front, mid_at}
+use Rattle.magnetar_prover.proofs.Slots.{part-size, part-is, fore-back, fore-length}
 use Rattle.magnetar_prover.proofs.Sent.{elements-take, table-first}
 
 -- what `EqBits::build` leaves from 1, where the room is the table's own
@@ -97,18 +97,6 @@ module _ (s one two : List ℕ) (b f : ℕ) (size : length s ≡ 4 * b + 4 * f) 
 
     room : 4 * b + 4 * f ≤ length half-way
     room = omega (arith, both-fit)
-
-    pub bin-placed : (tau : List ℕ) → EqTablePlaced b tau (take (4 * b) s) one → EqTablePlaced b tau (take (4 * b) s) (take (4 * b) done)
-    bin-placed tau h =
-        placed-eq b tau (take (4 * b) s) (take (4 * b) s) one (take (4 * b) done) refl
-        (sym (mid-front half-way two (4 * b) (4 * f) room m ∙ take_at one (drop (4 * b) s) (4 * b) l)) h
-
-    pub fld-placed : (tau : List ℕ) → EqTablePlaced f tau (take (4 * b + 4 * f - 4 * b) (drop (4 * b) half-way)) two
-        → EqTablePlaced f tau (take (4 * f) (drop (4 * b) s)) (take (4 * f) (drop (4 * b) done))
-    fld-placed tau h =
-        placed-eq f tau (take (4 * b + 4 * f - 4 * b) (drop (4 * b) half-way)) (take (4 * f) (drop (4 * b) s)) two (take (4 * f) (drop (4 * b) done))
-        (part-is half-way (4 * b) (4 * f) ∙ ap (take (4 * f)) (fore-back s one (4 * b) (omega (arith, size)) l))
-        (sym (mid_at half-way two (4 * b) (4 * f) room m)) h
 
 -- the tables behind the first
 pub behind : (w b n : ℕ) (s₀ s : List ℕ) → drop w s ≡ drop w s₀ → w ≤ b → table_at b n s ≡ table_at b n s₀

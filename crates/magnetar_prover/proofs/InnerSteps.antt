@@ -15,7 +15,7 @@ use Rattle.magnetar_hash.specs.Transcript as transcript
 use Rattle.magnetar_sumcheck_verifier.specs.Inner.{inner_message, inner_sums}
 use Rattle.magnetar_schedule.specs.Stepwise.{Steps, InnerSteps, inner_step, inner_steps}
 use Rattle.magnetar_prover.specs.Entries.{table_at}
-use Rattle.magnetar_prover.specs.InScratch.{inner_in, Table}
+use Rattle.magnetar_prover.specs.InScratch.{inner_in}
 use Rattle.magnetar_prover.proofs.Sent.{round-sent}
 
 pub inner-three : (v : ℕ) (t z : List ℕ) → length (inner_message v t z) ≡ 3
@@ -45,12 +45,6 @@ inner-stepped m n k d c t u proof p' draws d' s s' e f g h a b =
 pub record Inners (k : ℕ) (start : InnerSteps) (i n : ℕ) (at : InnerSteps) : Type 0 where
   pub size : n ≡ 2 * 2 ^ (k - i)
   pub left : inner_steps (k - i) at ≡ inner_steps k start
-
-pub inners-start : (k m : ℕ) (p : InnerSteps) → m ≡ 2 ^ k → Inners k p 0 (2 * m) p
-inners-start k m p e = let z : k - 0 ≡ k = omega arith in record { size = rw (z, e); left = rw z }
-
-pub inners-table : {k i n : ℕ} {p q : InnerSteps} → Inners k p i n q → i < k → k < 60 → Table 0 n
-inners-table {k} {i} r h l = record { vars = k - i; var = omega arith; few = omega arith; size = r.size }
 
 steps-more : (j : ℕ) (q : InnerSteps) → inner_steps (suc j) q ≡ inner_steps j (inner_step q)
 unfolding inner_steps

@@ -2,7 +2,7 @@
 -- Assumes nothing.
 use mathlib.Core.Path.{◌≡◌, refl, sym, ap, ap₂, ◌∙◌}
 use mathlib.Core.List.{List, [], ◌∷◌, ◌++◌}
-use Prim.Native.Nat.{ℕ, suc, ◌+◌, ◌-◌, ◌*◌, ◌≤◌, ◌<◌}
+use Prim.Native.Nat.{ℕ, suc, ◌+◌, ◌-◌, ◌*◌, ◌<◌}
 use Prim.Native.String.{String}
 use native.Mathlib.Omega.{arith}
 use lib.ListN.{length, get_or, take, drop, length-drop}
@@ -15,7 +15,7 @@ use Rattle.magnetar_hash.specs.declared.transcript.Transcript.{Transcript}
 use Rattle.magnetar_schedule.specs.Schedule.{numbered}
 use Rattle.magnetar_schedule.specs.Stepwise.{Steps, InnerSteps, begin, send, send_each, inner_steps}
 use Rattle.magnetar_prover.specs.Entries.{table_at}
-use Rattle.magnetar_prover.specs.InScratch.{steps_in, inner_in, Locals, segment_in, Sent, sent_in, sent_each, absorbed_one, inner_ended, inner_whole}
+use Rattle.magnetar_prover.specs.InScratch.{steps_in, inner_in, segment_in, Sent, sent_in, sent_each, absorbed_one, inner_ended, inner_whole}
 use Rattle.magnetar_prover.proofs.Slots.{take-of-drop, fore-back}
 use Rattle.magnetar_prover.proofs.Sent.{steps-eq}
 use Rattle.magnetar_prover.proofs.InnerSteps.{inner-eq}
@@ -32,11 +32,6 @@ each-beside label i (v ∷ vs) d p = each-beside label (suc i) vs d (record {
   sent = p.sent
       ++ (v ∷ []);
 })
-
-pub locals-wider : (w : ℕ) (ns : List ℕ) (a b : ℕ) → a ≤ b → Locals w ns a → Locals w ns b
-locals-wider w ns a b h l = record {
-  each = λ i j. record { most = (l.each i j).most; power = (l.each i j).power; few = (l.each i j).few; drawn = omega (arith, (l.each i j).drawn) };
-}
 
 ended_is : (ns f : List ℕ) (q : InnerSteps) → inner_ended ns f q
     ≡ send_each "vs-seg-" 0 (tabulate (segment_in ns f q.steps.run_state.draws) (length ns)) (send (ascii "vs-vz") (get_or q.z 0 0 ∷ []) q.steps)

@@ -4,7 +4,7 @@ use mathlib.Core.Path.{◌≡◌, refl, sym, ap, ap₂, ◌∙◌}
 use mathlib.Core.List.{List, ◌++◌}
 use Prim.Native.Nat.{ℕ, ◌+◌, ◌*◌, ◌^◌, ◌≤◌, ◌<◌}
 use Prim.{⊥}
-use native.Mathlib.Nat.{lt_of_not-le, le_trans, mul-le-mul_left, mul-le-mul_right}
+use native.Mathlib.Nat.{lt_of_not-le}
 use native.Mathlib.Omega.{arith}
 use lib.ListN.{length}
 use lib.Pow.{pow_mono, pow-add}
@@ -13,7 +13,6 @@ use Rattle.magnetar_field.specs.Sizes.{log₂}
 use Rattle.magnetar_hash.specs.declared.transcript.Transcript.{Transcript}
 use Rattle.magnetar_layout.specs.Tests.{Tests, first_refusal, room_test, Sized}
 use Rattle.magnetar_layout.proofs.FirstRefusal.{first-refusal-clear}
-use Rattle.magnetar_layout.proofs.Passing.{passing}
 use Rattle.magnetar_layout.proofs.SizeLaws.{not-bad, log-most}
 use Rattle.magnetar_prover.specs.Whole.{Blocks}
 use Rattle.magnetar_prover.proofs.Slots.{part_taken}
@@ -24,18 +23,6 @@ pub record Counts (q rb rf : ℕ) : Type 0 where
   pub logins : Sized 1 4096 q
   pub bin : Sized 1 65536 rb
   pub fld : Sized 1 65536 rf
-
--- the first tests
-pub counts_of : (q rb rf : ℕ) → first_refusal 0 (count_tests q rb rf) ≡ 0 → Counts q rb rf
-counts_of q rb rf e =
-    let k = (first-refusal-clear 0 (count_tests q rb rf) refl e).1 in
-    record { logins = not-bad k.0; bin = not-bad k.1.0; fld = not-bad k.1.1.0 }
-
--- a product of them fits a word
-pub product-fits : (q n : ℕ) → q ≤ 4096 → n ≤ 65536 → q * n < 2 ^ 64
-product-fits q n h k = let e : q * n ≤ 4096 * 65536 = le_trans (mul-le-mul_left q k) (mul-le-mul_right 65536 h) in omega (arith, e)
-
-pub ruleset counting = (passing, product-fits)
 
 -- all tests of the sizes
 pub record Totals (q rb rf : ℕ) : Type 0 where
@@ -158,7 +145,3 @@ blocks-lent {q} {rb} {rf} {l} {b} {f} el eb ef eu ev ep ed es z =
       draws = ed;
       blocks = omega (arith, es, eu, ev);
     }
-
--- and of slices as long as these
-pub blocks-same : {l b f wb wf p d s x y z : ℕ} → x ≡ p → y ≡ d → z ≡ s → Blocks l b f wb wf p d s → Blocks l b f wb wf x y z
-blocks-same e g h k = rw (e, g, h) k

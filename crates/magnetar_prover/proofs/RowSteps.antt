@@ -164,13 +164,6 @@ steps-none : (label : String) (i : ℕ) (q : RowSteps) → row_steps label i 0 q
 unfolding row_steps
 steps-none label i q = refl
 
-pub rowing_start : (label : String) (x n p d o k w : ℕ) (t : Transcript) (proof draws s : List ℕ) → n ≡ 2 * 2 ^ x
-    → Rowing label x (row_in p d o k w n t proof draws s) 0 n (row_in (p + 4 * 0) (d + 0) (o + 0) k w n t proof draws s)
-rowing_start label x n p d o k w t proof draws s e =
-    let z : x - 0 ≡ x = omega arith in
-    let a : p + 4 * 0 ≡ p = omega arith in
-    record { size = rw z e; left = rw (z, a, add-zero d, add-zero o) }
-
 pub rowing-rows : {label : String} {x i n : ℕ} {p q : RowSteps} (o d : ℕ) → Rowing label x p i n q → i < x → x < 62 → o + x ≤ d → Rows n (o + i) (d + i)
 rowing-rows {label} {x} {i} {n} o d r h l f = record {
   table = record { vars = x - i; var = omega arith; few = omega arith; size = r.size };

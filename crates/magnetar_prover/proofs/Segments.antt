@@ -4,7 +4,6 @@ use mathlib.Core.Path.{◌≡◌, refl, sym, ap, ap₂, ◌∙◌}
 use mathlib.Core.List.{List, [], ◌∷◌, ◌++◌}
 use Prim.Native.Nat.{ℕ, suc, ◌+◌, ◌-◌, ◌*◌, ◌/◌, ◌^◌, ◌≤◌, ◌<◌}
 use Prim.Native.String.{String}
-use native.Mathlib.Nat.{add-zero}
 use native.Mathlib.Numerals.{add-one}
 use native.Mathlib.Omega.{arith}
 use lib.ListN.{length, get_or, take, drop, drop_of_length-le}
@@ -108,9 +107,6 @@ pub each-end : (label : String) (f : ℕ → ℕ) (n i : ℕ) (start at : Sent) 
     ≡ sent_each label 0 (tabulate f n) start
 unfolding sent_each
 each-end label f n i start at r e = (rw (drop_of_length-le (tabulate f n) {i = i} (rw tabulate-length (omega arith))) at r.left)
-
-pub each-start-at : (label : String) (vs : List ℕ) (k : ℕ) (t : Transcript) (proof : List ℕ) → Each label vs (sent_in k t proof) 0 (sent_in (k + 0) t proof)
-each-start-at label vs k t proof = record { left = ap (λ (j : ℕ). sent_each label 0 vs (sent_in j t proof)) (add-zero k) }
 
 pub each-done : (label : String) (f : ℕ → ℕ) (n i k : ℕ) (start : Sent) (t : Transcript) (proof : List ℕ)
     → Each label (tabulate f n) start i (sent_in (k + i) t proof)

@@ -20,7 +20,7 @@ use Rattle.magnetar_sumcheck_verifier.specs.Messages.{Outer, outer_next, outer_f
 use Rattle.magnetar_schedule.specs.Schedule.{numbered}
 use Rattle.magnetar_schedule.specs.Stepwise.{Steps, OuterSteps, shared_step, shared_steps}
 use Rattle.magnetar_prover.specs.Entries.{table_at}
-use Rattle.magnetar_prover.specs.InScratch.{steps_in, outer_in, Table}
+use Rattle.magnetar_prover.specs.InScratch.{steps_in, outer_in}
 use Rattle.magnetar_prover.specs.Shared.{message_in, Dropped, Folded, shared_in, Shared}
 use Rattle.magnetar_prover.proofs.Slots.{take-of-drop}
 use Rattle.magnetar_prover.proofs.Sent.{round-sent}
@@ -167,10 +167,6 @@ shared-done i h b f o q p d kb kb' kf kf' ub uf wb nb wf nf t u proof p' draws d
         (high-fold y w q d kf kf' uf wf nf (value (transcript.element u)) (elements draws) (elements d') (drop (4 * wb) s) (drop (4 * wb) s₁) (drop (4
         * wb) s') rf long ff tf drawn nextf Df Gf))
 
--- the table of a system has the variable that the round binds
-pub high-table : {h b n o d : ℕ} → Shared h b n o d → Table (h + b - 1) n
-high-table {h} {b} g = record { vars = h + b; var = omega (arith, g.some); few = g.few; size = g.size }
-
 -- ---- the loop
 pub record Sharing (x b f : ℕ) (start : OuterSteps) (i nb nf : ℕ) (at : OuterSteps) : Type 0 where
   pub bin : nb ≡ 2 * 2 ^ (x - i + b)
@@ -194,12 +190,6 @@ sharing-start x b f o q p d kb kf wb wf nb nf t proof draws s eb ef =
     record { bin = rw z eb; fld = rw z ef; left = rw (z, a, add-zero d) }
 
 module _ {x b f i nb nf : ℕ} {p r : OuterSteps} (S : Sharing x b f p i nb nf r) (h : i < x) where
-  pub sharing-bin : (o d : ℕ) → x + b < 62 → o + (x + b) ≤ d → Shared (x - i) b nb o (d + i)
-  sharing-bin o d l g = record { some = omega arith; few = omega arith; size = S.bin; before = omega arith }
-
-  pub sharing-fld : (o d : ℕ) → x + f < 62 → o + (x + f) ≤ d → Shared (x - i) f nf o (d + i)
-  sharing-fld o d l g = record { some = omega arith; few = omega arith; size = S.fld; before = omega arith }
-
   half : (n c : ℕ) → n ≡ 2 * 2 ^ (x - i + c) → n / 2 ≡ 2 * 2 ^ (x - (i + 1) + c)
   half n c e =
       let k : x - i + c ≡ suc (x - (i + 1) + c) = omega arith in

@@ -3,7 +3,7 @@
 use mathlib.Core.Path.{◌≡◌, refl, sym, ap, ◌∙◌, subst}
 use mathlib.Core.List.{List, [], ◌∷◌, ◌++◌}
 use Prim.Native.Nat.{ℕ, suc, ◌+◌, ◌*◌, ◌-◌, ◌<◌, ◌≤◌}
-use native.Mathlib.Nat.{mul-zero, mul-suc}
+use native.Mathlib.Nat.{mul-suc}
 use native.Mathlib.Numerals.{add-one}
 use native.Mathlib.Omega.{arith}
 use lib.ListN.{length, replicate}
@@ -72,18 +72,6 @@ pub record Rounds (w : List ℕ) (label : ℕ → List ℕ) (k n : ℕ) (s : Sta
       → PartialRun w was whole (rounds label first k 0 n ++ rest) first s out
       → PartialRun w was whole (rounds label first k i (n - i) ++ rest) (first + k * i) u last
 
-pub rounds-start : (w : List ℕ) (label : ℕ → List ℕ) (k n : ℕ) (s : Stage) (out : List ℕ) → Rounds w label k n s out 0 s out
-rounds-start w label k n s out =
-    let e : n ≡ n - 0 = omega arith in
-    record {
-      some = omega arith;
-      size = refl;
-      go = λ first was whole rest g.
-          let f : first ≡ first + k * 0 = omega (arith, mul-zero k) in
-          subst (λ (j : ℕ). PartialRun w was whole (rounds label first k 0 (n - 0) ++ rest) j s out) f
-          (subst (λ (j : ℕ). PartialRun w was whole (rounds label first k 0 j ++ rest) first s out) e g);
-    }
-
 pub rounds-more
     : {w out mid last : List ℕ} {label : ℕ → List ℕ} {k n i : ℕ} {s u v : Stage}
     → Rounds w label k n s out i u mid
@@ -127,17 +115,6 @@ pub record Singles (w : List ℕ) (label : ℕ → List ℕ) (n : ℕ) (s : Stag
       : (first : ℕ) (out was : List ℕ) (whole : RunState) (rest : List Event)
       → PartialRun w was whole (singles label first 0 n ++ rest) first s out
       → PartialRun w was whole (singles label first i (n - i) ++ rest) (first + i) u out
-
-pub singles-start : (w : List ℕ) (label : ℕ → List ℕ) (n : ℕ) (s : Stage) → Singles w label n s 0 s
-singles-start w label n s =
-    let e : n ≡ n - 0 = omega arith in
-    record {
-      some = omega arith;
-      go = λ first out was whole rest g.
-          let f : first ≡ first + 0 = omega arith in
-          subst (λ (j : ℕ). PartialRun w was whole (singles label first 0 (n - 0) ++ rest) j s out) f
-          (subst (λ (j : ℕ). PartialRun w was whole (singles label first 0 j ++ rest) first s out) e g);
-    }
 
 pub singles-more
     : {w : List ℕ} {label : ℕ → List ℕ} {n i : ℕ} {s u v : Stage}

@@ -71,7 +71,7 @@ pub(crate) fn of_inner(
 }
 
 // 1 and 4.
-#[tactic(auto, using(crate::proofs::OuterGuard::counting), unfolding(magnetar_layout::specs::Tests::or_refuse))]
+#[tactic(auto, using(magnetar_protocol::proofs::Guards::rows), unfolding(magnetar_layout::specs::Tests::or_refuse))]
 fn of_counts(q: usize, rb: usize, rf: usize) -> Result<(), Refusal>
     ensures { number_of result ≡ first_refusal 0 (count_tests q rb rf ++ total_tests q rb rf) }
 {
