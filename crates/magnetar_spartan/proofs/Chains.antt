@@ -6,7 +6,7 @@ use Rattle.std.specs.Prelude.{Result, Ok, Err, if◌then◌else◌}
 use lib.Dec.{leb, ltb}
 use lib.ListN.{length}
 use mathlib.Core.List.{List}
-use Prim.Native.Nat.{ℕ, ◌+◌, ◌-◌, ◌*◌, ◌≤◌, ◌^◌, ◌/◌, zero, suc}
+use Prim.Native.Nat.{ℕ, ◌+◌, ◌-◌, ◌*◌, ◌≤◌, ◌^◌, ◌/◌}
 use native.Mathlib.Nat.{le_trans, mul-le-mul_left, mul-le-mul_right}
 use borrow.Author.Tests.{le-leb, lt-leb, eq-eqb, ltb-true, ltb-false}
 use Rattle.magnetar_field.specs.Sizes.{log₂}
@@ -44,14 +44,6 @@ size-passes n z = rw (le-leb 2 n z.low, le-leb n 65536 z.high, eq-eqb n (2 ^ log
 pub layout-tests : (m : ℕ) (ns : List ℕ) → Sized 2 65536 m → layout_refusal (m / 2) ns ≡ first_refusal 0 (layout_tests (m / 2) ns)
 unfolding layout_refusal
 layout-tests m ns z = ap (λ (n : ℕ). first_refusal n (layout_tests (m / 2) ns)) (size-passes (2 * (m / 2)) (subst (Sized 2 65536) (sym (even-size m z)) z))
-
--- so many columns have a variable
-pub log-least : {most : ℕ} (m : ℕ) → Sized 2 most m → 1 ≤ log₂ m
-log-least m z = go (log₂ m) z.power
-  where
-    go : (k : ℕ) → m ≡ 2 ^ k → 1 ≤ k
-    go zero e = absurd (omega (arith, z.low))
-    go (suc k) e = omega arith
 
 -- the packed words of q logins
 pub product-most : (q k : ℕ) → q ≤ 4096 → k ≤ 512 → q * k ≤ 2097152

@@ -7,11 +7,9 @@ use native.Mathlib.Omega.{arith}
 use lib.ListN.{length, take, drop, replicate, length-append, length-drop, length-replicate}
 use lib.Seq.{take_at, take_all, drop-drop, length-take-le}
 use borrow.Author.Tests.{lt-ltb}
-use borrow.Rule.Slice.PartMut.{put_mid}
 use Rattle.std.specs.Prelude.{Result, Ok, Err}
 use Rattle.std.specs.Result.{result_unwrap_or}
 use Rattle.magnetar_field.specs.declared.refusal.Refusal.{Refusal}
-use Rattle.magnetar_hash.specs.Transcript.{answer_of}
 use Rattle.magnetar_protocol.specs.Scratch.{asked}
 use Rattle.magnetar_field.specs.Sizes.{log₂}
 use Rattle.magnetar_field.specs.Words.{elements, words, overlaid}
@@ -21,7 +19,6 @@ use Rattle.magnetar_layout.specs.Tests.{Tests, column_tests, layout_tests, room_
 use Rattle.magnetar_layout.proofs.FirstRefusal.{Clear}
 use Rattle.magnetar_matrix.specs.Batch.{Relation, folded, public_folded}
 use Rattle.magnetar_matrix.specs.Packed.{unpacked, public_of}
-use Rattle.magnetar_batch.proofs.Rooms.{back-part, back-put}
 use Rattle.magnetar_protocol.specs.Shape.{log_cols, proof_elements, claim_count, sizes_only}
 use Rattle.magnetar_protocol.specs.Draws.{draw_count}
 use Rattle.magnetar_protocol.specs.Scratch.{prover_scratch_words}
@@ -29,7 +26,7 @@ use Rattle.magnetar_protocol.specs.Scratch.{ScratchWords}
 use Rattle.magnetar_schedule.specs.Stepwise.{Steps, begin, inner_run, segment_value, low_draws, ended, inner_all}
 use Rattle.magnetar_schedule.proofs.Stepwise.{goes-inner, inner-drawn-length, inner-sent-length}
 use Rattle.magnetar_protocol.proofs.Guards.{prover-within}
-use Rattle.magnetar_prover.specs.Entries.{inner_rounds_refusal, inner_run_steps, answer_for, proof_for, draws_for, scratch_for}
+use Rattle.magnetar_prover.specs.Entries.{inner_rounds_refusal, inner_run_steps}
 use Rattle.magnetar_layout.proofs.Laid.{even-size}
 use Rattle.magnetar_protocol.specs.RunTests.{counter_tests, run_tests, outline_tests, draw_tests, proof_tests}
 use Rattle.magnetar_verifier.specs.Claims.{claims_refusal, claims_out}
@@ -65,20 +62,6 @@ words-asked (Ok n) = refl
 words-asked (Err r) = refl
 
 -- ---- the inner rounds and the claims
--- the transcript that is handed on: the old one where the call is refused
-pub moved-on : (t : Transcript) (r : Result Transcript Refusal) → result_unwrap_or r t ≡ (answer_of t r).transcript
-moved-on t (Ok u) = refl
-moved-on t (Err e) = refl
-
-pub inner-done : (m : ℕ) (ns w d s : List ℕ) (a k i j : ℕ) (t : Transcript) (r : Result Transcript Refusal) (u : Transcript) (w' d' s' : List ℕ)
-    → u ≡ result_unwrap_or r t → i ≡ min a (length w) → j ≡ min k (length d)
-    → let W = take (length w - i) (drop i w) in let D = take (length d - j) (drop j d) in
-    let z = inner_rounds_refusal m ns W D s t in let p = inner_run_steps (sizes_only m 1 1 1 ns) s t in
-    answer_of t r ≡ answer_for z p t → w' ≡ proof_for z p W → d' ≡ draws_for z p D → s' ≡ scratch_for z (6 * m) s
-    → InnerDone m ns w d s (min a (length w)) (min k (length d)) t u (put_mid i (length w - i) w w') (put_mid j (length d - j) d d') s'
-inner-done m ns w d s a k i j t r u w' d' s' eu ei ej eA ew ed es =
-    rw (← ei, ← ej, back-put w w' i, back-put d d' j, eu ∙ moved-on t r, eA, ew, ed, es, back-part w i, back-part d j) (refl, refl, refl, refl)
-
 module _ (r : Relation) (c f h : List ℕ) (t : Transcript) where
   pub inner-drawn-many : length (inner_all r c f h (begin t)).run_state.draws ≡ log_cols r
   inner-drawn-many = ap length (goes-inner r c f h (begin t) 0 refl).draws ∙ inner-drawn-length r c f h (begin t) 0 refl

@@ -9,7 +9,6 @@ use native.Mathlib.Omega.{arith}
 use lib.Dec.{ltb}
 use lib.ListN.{length, get_or, take, drop, length-drop}
 use lib.Seq.{drop-drop}
-use borrow.Author.Tests.{lt-ltb, le-ltb}
 use borrow.Rule.Slice.PartMut.{put_mid}
 use Rattle.magnetar_field.specs.Words.{elements, words}
 use Rattle.magnetar_field.proofs.Elements.{words-length}
@@ -28,35 +27,12 @@ use Rattle.magnetar_prover.specs.Entries.{table_at, block_words, tables_of}
 use Rattle.magnetar_prover.proofs.Slots.{take-of-drop, mid-length, mid-before, mid-behind, mid_at, mid_back}
 use Rattle.magnetar_layout.proofs.Laid.{even-size}
 use Rattle.magnetar_relation.specs.declared.shapes.SystemShape.{SystemShape}
-use Rattle.magnetar_relation.specs.declared.shapes.Shapes.{Shapes}
 use Rattle.magnetar_relation.specs.Rules.{Rules, relation_of, system_at, entries_in}
 use Rattle.magnetar_relation.proofs.RangeLaws.{same_drop, range-is}
 use Rattle.magnetar_spartan.specs.declared.products.Part.{Part}
 use Rattle.magnetar_spartan.specs.Refusals.{rows_bin, rows_fld}
 use Rattle.magnetar_spartan.specs.Products.{product_words, part_in, part_of, matrix_in, matrix_no, words_bin, words_fld, words_no, slot, place_no}
 use Rattle.magnetar_spartan.specs.Products.{table_of, Placed, ValidProducts, ProductLeft, tables_wanted, Products, ProductsLeft}
-
--- ---- a table's place, rows and entries
-module _ (k q : ℕ) (t : SystemShape) (p i h w j l : ℕ) (ew : w ≡ product_words q t.a.rows) (ej : j ≡ min (i + t.a.entries) h) where
-  abbrev Is : (place rows first last : ℕ) → Type 0
-  Is place rows first last = ◌≡◌ {A = Part} (record { place = place; rows = rows; from = first; to = last }) (part_in k q t p i h)
-
-  pub part-a : k < 2 → Is (p + w) t.a.rows i j
-  part-a g = rw (lt-ltb k 2 g, ew, ej)
-
-  pub part-b : 2 ≤ k → l ≡ min (j + t.b.entries) h → k < 3 → Is (p + 2 * w) t.b.rows j l
-  part-b f el g = rw (le-ltb k 2 f, lt-ltb k 3 g, ew, el, ej)
-
-  pub part_c : 2 ≤ k → l ≡ min (j + t.b.entries) h → 3 ≤ k → (e : ℕ) → e ≡ min (l + t.c.entries) h → Is (p + 3 * w) t.c.rows l e
-  part_c f el g e ee = rw (le-ltb k 2 f, le-ltb k 3 g, ew, ee, el, ej)
-
-module _ (k q : ℕ) (s : Shapes) (h : ℕ) (r : Part) where
-  pub part-bin : k < 4 → r ≡ part_in k q s.bin 0 0 h → r ≡ part_of k q s h
-  part-bin g e = rw (lt-ltb k 4 g) e
-
-  pub part-fld : 4 ≤ k → (w i : ℕ) → w ≡ product_words q s.bin.a.rows → i ≡ min (0 + entries_in s.bin) h → r ≡ part_in (k - 4) q s.fld (4 * w) i h
-      → r ≡ part_of k q s h
-  part-fld g w i ew ei e = rw (le-ltb k 4 g) (e ∙ ap₂ (λ (a b : ℕ). part_in (k - 4) q s.fld (4 * a) b h) ew ei)
 
 -- ---- one table t of n words at place p of s, in whose place the words made stand
 module _ (n p : ℕ) (t s made : List ℕ) (l : length (words t) ≡ n) (long : length made ≡ length s) (same : (o : ℕ) → n ≤ o → drop o made ≡ drop o s)

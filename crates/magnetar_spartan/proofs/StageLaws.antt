@@ -1,15 +1,11 @@
 -- What the stages of a run leave, call by call.
 -- Assumes nothing.
-use mathlib.Core.Path.{◌≡◌, refl, sym, ap, ◌∙◌}
+use mathlib.Core.Path.{◌≡◌, sym, ap, ◌∙◌}
 use mathlib.Core.List.{List}
 use Prim.Native.Nat.{ℕ, ◌+◌, ◌-◌, ◌*◌, ◌≤◌, min}
 use native.Mathlib.Omega.{arith}
 use lib.ListN.{length, take, drop, replicate, length-take, length-drop, length-replicate}
-use Rattle.std.specs.Prelude.{Result, Ok, Err}
-use Rattle.std.specs.Result.{result_unwrap_or}
-use Rattle.magnetar_field.specs.declared.refusal.Refusal.{Refusal}
-use Rattle.magnetar_field.specs.declared.gf128.Gf128.{Gf128}
-use Rattle.magnetar_field.specs.Gf128.{value}
+use Rattle.std.specs.Prelude.{Ok, Err}
 use borrow.Author.Tests.{ne_eqb}
 use Rattle.magnetar_field.specs.Number.{number}
 use Rattle.magnetar_field.specs.Words.{overlaid}
@@ -20,7 +16,6 @@ use Rattle.magnetar_protocol.specs.Found.{Found}
 use Rattle.magnetar_protocol.specs.Draws.{draw_count}
 use Rattle.magnetar_protocol.specs.declared.first.Failure.{Failure}
 use Rattle.magnetar_protocol.specs.Found.{found}
-use Rattle.magnetar_batch.specs.Value.{valued}
 use Rattle.magnetar_spartan.specs.Table.{window}
 use Rattle.magnetar_spartan.specs.Stages.{run_to, drawn_of, claims_at, concluded, stopped_at}
 use Rattle.magnetar_spartan.proofs.PassedTests.{some}
@@ -48,12 +43,3 @@ window-is n k a d r h f l e =
     let w : a + n - a ≡ n = omega arith in
     e ∙ (ap (λ (i : ℕ). take i (drop a d)) w
     ∙ (sym (overlaid-same (take n (drop a d)) (replicate n 0) (sym long)) ∙ ap (λ (i : ℕ). overlaid (take n (drop i d)) (replicate n 0)) h))
-
--- ---- the value of the combined table; 0 where the call is refused
-pub value_or : (r : Result Gf128 Refusal) (s : List ℕ) (z : Gf128) → value z ≡ 0 → value (result_unwrap_or r z) ≡ (valued r s).value
-value_or (Ok v) s z h = refl
-value_or (Err r) s z h = h
-
-pub value_left : (r : Result Gf128 Refusal) (s : List ℕ) → (valued r s).scratch ≡ s
-value_left (Ok v) s = refl
-value_left (Err r) s = refl

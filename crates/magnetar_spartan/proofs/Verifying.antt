@@ -2,19 +2,18 @@
 -- Assumes nothing.
 use mathlib.Core.Path.{◌≡◌, refl, sym, ap, ap₂, ◌∙◌}
 use mathlib.Core.List.{List, [], ◌++◌, append-nil}
-use Prim.Native.Nat.{ℕ, ◌*◌, ◌/◌, ◌≤◌}
+use Prim.Native.Nat.{ℕ, ◌/◌, ◌≤◌}
 use native.Mathlib.Omega.{arith}
 use lib.ListN.{length, take}
 use lib.Seq.{take_all}
 use borrow.Author.Tests.{ne_eqb}
-use Rattle.magnetar_field.specs.Words.{elements, words, overlaid}
-use Rattle.magnetar_field.proofs.Elements.{words-length, overlaid-same}
+use Rattle.magnetar_field.specs.Words.{elements}
 use Rattle.magnetar_hash.specs.declared.transcript.Transcript.{Transcript}
 use Rattle.magnetar_matrix.specs.Batch.{Relation, PublicColumns, public_folded}
 use Rattle.magnetar_protocol.specs.Shape.{log_logins}
 use Rattle.magnetar_multilinear.specs.Multilinear.{mle}
 use Rattle.magnetar_protocol.specs.Proof.{inner_rounds, value_z, terminals, segment_values}
-use Rattle.magnetar_protocol.specs.Draws.{Draws, draws_of, draw_count, login_point, low_point, top_element}
+use Rattle.magnetar_protocol.specs.Draws.{Draws, draws_of, login_point, low_point, top_element}
 use Rattle.magnetar_schedule.specs.Schedule.{Event, schedule}
 use Rattle.magnetar_schedule.specs.ScheduleRun.{RunState, run_from}
 use Rattle.magnetar_protocol.specs.Checks.{Check, first_failure, first_stop, shared_checks, row_checks, terminal_checks, inner_checks, identity_check}
@@ -22,7 +21,7 @@ use Rattle.magnetar_protocol.specs.Checks.{inner_claim, combined}
 use Rattle.magnetar_protocol.specs.Run.{verdict}
 use Rattle.magnetar_schedule.specs.RealRun.{verifier_draws, verifier_transcript, stop}
 use Rattle.magnetar_protocol.proofs.Phases.{Numbered}
-use Rattle.magnetar_schedule.proofs.Counts.{played-count, schedule-length}
+use Rattle.magnetar_schedule.proofs.Counts.{schedule-length}
 use Rattle.magnetar_schedule.proofs.Blocks.{outer_checks, later_checks, later-numbered, verdict-blocks, run-stop-blocks, stop-append, stop-accepted}
 use Rattle.magnetar_schedule.proofs.Blocks.{outlined, schedule-outlined, draws-outlined, shared-outlined, rows-outlined, terminals-outlined}
 use Rattle.magnetar_verifier.specs.End.{end_checks}
@@ -47,18 +46,6 @@ module _ (R : Rules) (w : List ℕ) (t : Transcript) where
   pub played-all : (k : ℕ) → length (schedule (sizes_only_of R)) ≤ k
       → run_from w (take k (schedule (sizes_only_of R))) t ≡ run_from w (schedule (relation_of R)) t
   played-all k h = ap (λ (es : List Event). run_from w es t) (take_all k (schedule (sizes_only_of R)) h ∙ sym (schedule-is R))
-
-  pub drawn-words : (k : ℕ) (d d' : List ℕ) → length (schedule (sizes_only_of R)) ≤ k → length d ≡ 2 * draw_count (sizes_only_of R)
-      → d' ≡ overlaid (words (run_from w (take k (schedule (sizes_only_of R))) t).draws) d → d' ≡ words (verifier_draws (relation_of R) w t)
-  unfolding verifier_draws
-  drawn-words k d d' h l e =
-      let c : length (words (run_from w (schedule (relation_of R)) t).draws) ≡ length d =
-      words-length (run_from w (schedule (relation_of R)) t).draws
-      ∙ ap (λ (n : ℕ). 2 * n) (played-count (relation_of R) w t ∙ count) ∙ sym l in
-      e ∙ rw (played-all k h) (overlaid-same (words (run_from w (schedule (relation_of R)) t).draws) d (sym c))
-    where
-      count : draw_count (relation_of R) ≡ draw_count (sizes_only_of R)
-      count = refl
 
 -- ---- the outer checks
 module _ (R : Rules) (x : PublicColumns) (w : List ℕ) (D : Draws) where

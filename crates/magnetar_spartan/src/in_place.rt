@@ -25,7 +25,8 @@ pub fn verify_virtual_spartan<E: Entries>(
     x: &[u64],
     proof: &[u64],
 ) -> Result<(), Refusal>
-    ensures outcome { let R = rules_by m q lens.now sh (E.numbers es.now) in verified_in_place (number_of result) t.new claims.new scratch.new ≡ verify_outcome R x.now proof.now t.old claims.old scratch.old }
+    ensures outcome { let R = rules_by m q lens.now sh (E.numbers es.now) in
+        verified_in_place (number_of result) t.new claims.new scratch.new ≡ verify_outcome R x.now proof.now t.old claims.old scratch.old }
     ensures bound { let R = rules_by m q lens.now sh (E.numbers es.now) in WritesAtMost (verifier_scratch_of R) scratch.old scratch.new }
     ensures sound { let R = rules_by m q lens.now sh (E.numbers es.now) in OnOk result (AcceptedCall R x.now proof.now t.old claims.new) }
 {
@@ -50,7 +51,8 @@ pub fn prove_virtual_spartan<E: Entries>(
     packed: &[u64],
     x: &[u64],
 ) -> Result<(), Refusal>
-    ensures outcome { let R = rules_by m q lens.now sh (E.numbers es.now) in proved_in_place (number_of result) t.new out.new claims.new scratch.new ≡ prove_outcome R packed.now x.now t.old out.old claims.old scratch.old }
+    ensures outcome { let R = rules_by m q lens.now sh (E.numbers es.now) in
+        proved_in_place (number_of result) t.new out.new claims.new scratch.new ≡ prove_outcome R packed.now x.now t.old out.old claims.old scratch.old }
     ensures complete { let R = rules_by m q lens.now sh (E.numbers es.now) in OnOk result (ProvedCall R packed.now x.now t.old out.new claims.new t.new) }
 {
     *t = virtual_spartan::prove_virtual_spartan(

@@ -100,7 +100,8 @@ fn end(
     draws: &mut [u64],
     t: Transcript,
 ) -> Transcript
-    ensures { let R = sizes_only_rules m q sh.bin.a.rows sh.fld.a.rows lens.now in (ws xs : ℕ) → ValidRun R ws xs (length proof.old) (length claims.old) (length s.old) t.squeeze_ctr → length draws.old ≡ 256
+    ensures { let R = sizes_only_rules m q sh.bin.a.rows sh.fld.a.rows lens.now in
+        (ws xs : ℕ) → ValidRun R ws xs (length proof.old) (length claims.old) (length s.old) t.squeeze_ctr → length draws.old ≡ 256
         → EndLeft R proof.old draws.old claims.old s.old (6 * m) (inner_run_steps (sizes_only m 1 1 1 lens.now) s.old t) result proof.new claims.new s.new }
 {
     let rb = sh.bin.a.rows;
@@ -132,7 +133,8 @@ pub(crate) fn inner_stage(
     draws: &mut [u64],
     t: Transcript,
 ) -> Transcript
-    ensures { AreWords x.now × (length draws.old ≡ 256 → InnerPartLeft (sizes_only_rules m q sh.bin.a.rows sh.fld.a.rows lens.now) packed.now x.now proof.old draws.old claims.old s.old t result proof.new claims.new s.new) }
+    ensures { AreWords x.now × (length draws.old ≡ 256
+        → InnerPartLeft (sizes_only_rules m q sh.bin.a.rows sh.fld.a.rows lens.now) packed.now x.now proof.old draws.old claims.old s.old t result proof.new claims.new s.new) }
 {
     fold_behind(s, m, q, sh, packed, x, draws);
     let u = end(proof, claims, s, m, q, sh, lens, draws, t);

@@ -112,7 +112,8 @@ pub(crate) fn public_half(
     x: &[u64],
     d: &[u64; 256],
 ) -> Gf128
-    ensures { (value result ≡ half_value m q sh.bin.a.rows sh.fld.a.rows x.now d.now s.old) × (s.new ≡ half_left m q sh.bin.a.rows sh.fld.a.rows x.now d.now s.old) }
+    ensures { (value result ≡ half_value m q sh.bin.a.rows sh.fld.a.rows x.now d.now s.old)
+        × (s.new ≡ half_left m q sh.bin.a.rows sh.fld.a.rows x.now d.now s.old) }
 {
     let rounds = Rounds::of(m, q, sh.bin.a.rows, sh.fld.a.rows);
     let n = (rounds.shared as usize).min(16);

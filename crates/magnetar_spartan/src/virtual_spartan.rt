@@ -42,7 +42,8 @@ fn checks<E: Entries>(
     proof: &[u64],
     d: &[u64; 256],
 ) -> Result<(), Failure>
-    ensures { let R = rules_by m q lens.now sh (E.numbers es.now) in (found result ≡ checked R x.now proof.now d.now s.old) × (s.new ≡ checks_left R x.now proof.now d.now s.old) }
+    ensures { let R = rules_by m q lens.now sh (E.numbers es.now) in
+        (found result ≡ checked R x.now proof.now d.now s.old) × (s.new ≡ checks_left R x.now proof.now d.now s.old) }
 {
     let rb = sh.bin.a.rows;
     let rf = sh.fld.a.rows;
@@ -69,7 +70,8 @@ pub fn verify_virtual_spartan<E: Entries>(
     proof: &[u64],
     t: Transcript,
 ) -> Verified
-    ensures outcome { let R = rules_by m q lens.now sh (E.numbers es.now) in verified (answered result) claims.new scratch.new ≡ verify_outcome R x.now proof.now t claims.old scratch.old }
+    ensures outcome { let R = rules_by m q lens.now sh (E.numbers es.now) in
+        verified (answered result) claims.new scratch.new ≡ verify_outcome R x.now proof.now t claims.old scratch.old }
     ensures bound { let R = rules_by m q lens.now sh (E.numbers es.now) in WritesAtMost (verifier_scratch_of R) scratch.old scratch.new }
     ensures sound { let R = rules_by m q lens.now sh (E.numbers es.now) in OnOk result.outcome (AcceptedCall R x.now proof.now t claims.new) }
 {
@@ -116,7 +118,8 @@ pub fn prove_virtual_spartan<E: Entries>(
     x: &[u64],
     t: Transcript,
 ) -> Result<Transcript, Refusal>
-    ensures outcome { let R = rules_by m q lens.now sh (E.numbers es.now) in proved (answer_of t result) out.new claims.new scratch.new ≡ prove_outcome R packed.now x.now t out.old claims.old scratch.old }
+    ensures outcome { let R = rules_by m q lens.now sh (E.numbers es.now) in
+        proved (answer_of t result) out.new claims.new scratch.new ≡ prove_outcome R packed.now x.now t out.old claims.old scratch.old }
     ensures complete { let R = rules_by m q lens.now sh (E.numbers es.now) in IfOk result (λ u. ProvedCall R packed.now x.now t out.new claims.new u) }
 {
     refusal::prove(m, q, lens, sh, es, packed, x, t, out, claims, scratch)?;

@@ -1,5 +1,4 @@
 use mathlib.Core.Path.{◌∙◌}
-use native.Mathlib.Omega.{arith}
 use Rattle.magnetar_spartan.proofs.FoldLaws.{fold-ends}
 use Rattle.magnetar_spartan.proofs.proving.fold_at.Goals as goal
 
@@ -9,6 +8,3 @@ returns-then-w-s c =
     let p = c.login_point in
     λ F. fold-ends x.q x.w x.n x.k x.packed.now x.x.now x.draws.now x.s.now p.new.out _
     (p.auto.out ∙ c.requires.2) p.ensures c.fold_packed_in-done.ensures.folded F _ c.fold_public_in-also.ensures.folded
-
-pub returns-else-w-s : goal.returns-else-w-s
-returns-else-w-s c = λ F. absurd (omega (arith, F.room))

@@ -46,9 +46,6 @@ returns-in_err-require g c =
     (out-front packed (middle ++ lent) _ _ c.from_residual-in_err-require.ensures.1
     (rw (c.in_err-require.was, c.login_words.ensures) at (required _ _ PackedWords c.require.ensures)))
 
-pub relation-requires : goal.relation-requires
-relation-requires g c = sym c.in_ok-size_refusal.ensures
-
 pub returns-in_err-relation : goal.returns-in_err-relation
 unfolding prove_refusal
 returns-in_err-relation g c =

@@ -1,4 +1,3 @@
-use mathlib.Core.Path.{sym}
 use mathlib.Core.List.{◌++◌}
 use lib.ListN.{length}
 use Rattle.magnetar_layout.specs.Tests.{Tests, size_tests, public_tests_of}
@@ -19,9 +18,6 @@ returns-in_err-size_refusal g c =
     let lent : Tests = verify_lent_tests (sizes_only_of R) (length x.proof.now) x.t.squeeze_ctr (length x.claims.now) (length x.scratch.now) in
     out-front (size_tests x.m x.q) ((public_tests_of x.m x.q
     (length x.x.now) ++ rules_tests R) ++ lent) _ _ c.from_residual.ensures.1 c.in_err-size_refusal.ensures
-
-pub relation-requires : goal.relation-requires
-relation-requires g c = sym c.in_ok-size_refusal.ensures
 
 pub returns-in_err-relation : goal.returns-in_err-relation
 unfolding verify_refusal
