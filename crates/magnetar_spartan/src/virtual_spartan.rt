@@ -1,5 +1,6 @@
 // Virtual Spartan: the verifier and the prover of a batch. The relation is lent as the shapes of its six matrices and their entries, those of
 // A, B, C of bin, then of A, B, C of fld, one behind the other, in whichever form.
+// m, q, lens, sh and es stay parameters of their own: C lends them one by one, and the crates below take some of them each.
 ghost use Rattle.std.specs.Prelude.{◌≡◌, IfOk, OnOk};
 ghost use Rattle.magnetar_field.specs.Gf128.{value};
 ghost use Rattle.magnetar_relation.specs.Rules.{rules_by};
