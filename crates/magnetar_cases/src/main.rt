@@ -15,6 +15,9 @@ use std::alloc::Global;
 use std::io;
 use std::io::{BufWriter, Write};
 
+// How much is read, two mebibytes: the input is shorter.
+const MOST_INPUT: usize = 2097152;
+
 // How many numbers a query may have.
 const MOST: usize = 1024;
 
@@ -46,9 +49,9 @@ fn answer(alloc: Global, out: &mut Out, text: &[u8], case: &mut Case) -> io::Res
 fn main(rt: HostRuntime) -> io::Result<()> {
     let alloc = rt.alloc();
     let mut out = BufWriter::new(alloc, rt.stdout())?;
-    let input = replay::read(alloc, rt.reader())?;
+    let input = replay::read(alloc, rt.reader(), MOST_INPUT)?;
     let mut case = Case::new(alloc, Vec::new(alloc))?;
-    replay::replay(&mut out, input.as_slice(), |out, text| {
+    replay::replay(&mut out, input.as_slice(), MOST_INPUT, |out, text| {
         answer(alloc, out, text, &mut case)
     })?;
     out.flush()

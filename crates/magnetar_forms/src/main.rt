@@ -12,6 +12,9 @@ use std::alloc::Global;
 use std::io;
 use std::io::{BufWriter, Write};
 
+// How much is read, a mebibyte: the input is shorter.
+const MOST_INPUT: usize = 1048576;
+
 // How many numbers, byte strings and bytes a query may have.
 const MOST: usize = 4096;
 
@@ -41,10 +44,11 @@ fn answer(alloc: Global, out: &mut Out, text: &[u8]) -> io::Result<bool> {
 fn main(rt: HostRuntime) -> io::Result<()> {
     let alloc = rt.alloc();
     let mut out = BufWriter::new(alloc, rt.stdout())?;
-    let input = replay::read(alloc, rt.reader())?;
+    let input = replay::read(alloc, rt.reader(), MOST_INPUT)?;
     replay::replay(
         &mut out,
         input.as_slice(),
+        MOST_INPUT,
         |out, text| answer(alloc, out, text),
     )?;
     out.flush()

@@ -7,6 +7,9 @@ use std::alloc::{AllocError, Global};
 use std::io;
 use std::io::Write;
 
+// How many rows and columns of entries a query may have.
+const MOST_ENTRIES: usize = 32;
+
 // The query's entries as records, as many as there are rows.
 fn records(alloc: Global, nums: &[u64], places: &Places) -> Result<Vec<Entry>, AllocError> {
     let lo = line::list_from(nums, 4, 2);
@@ -28,7 +31,7 @@ pub(crate) fn answer(alloc: Global, out: &mut Out, name: &[u8], nums: &[u64]) ->
     let Some(function) = Function::named(name) else {
         return Ok(false);
     };
-    let places = Places::new(alloc, nums)?;
+    let places = Places::new(alloc, nums, MOST_ENTRIES)?;
     let es = records(alloc, nums, &places)?;
     let records = Records {
         entries: es.as_slice(),

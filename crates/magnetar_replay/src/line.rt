@@ -203,3 +203,11 @@ pub fn sizes(alloc: Global, nums: &[u64]) -> Result<Vec<usize>, AllocError> {
     }
     Ok(all)
 }
+
+// The same, or none where there are more than `most`.
+pub fn sizes_within(alloc: Global, nums: &[u64], most: usize) -> Result<Vec<usize>, AllocError> {
+    if nums.len() > most {
+        return Ok(Vec::new(alloc));
+    }
+    sizes(alloc, nums)
+}

@@ -54,10 +54,11 @@ pub struct Places {
 }
 
 impl Places {
-    pub fn new(alloc: Global, nums: &[u64]) -> Result<Places, AllocError> {
+    // Rows of which there are more than `most` are left out, and so are columns.
+    pub fn new(alloc: Global, nums: &[u64], most: usize) -> Result<Places, AllocError> {
         Ok(Places {
-            row: line::sizes(alloc, line::list_from(nums, 4, 0))?,
-            col: line::sizes(alloc, line::list_from(nums, 4, 1))?,
+            row: line::sizes_within(alloc, line::list_from(nums, 4, 0), most)?,
+            col: line::sizes_within(alloc, line::list_from(nums, 4, 1), most)?,
         })
     }
 

@@ -4,9 +4,6 @@ use std::alloc::Global;
 use std::io;
 use std::io::{BufWriter, Read, Write};
 
-// How much is read, two mebibytes: the input is shorter.
-pub const MOST: usize = 2097152;
-
 // A line where there is more to read than room for it.
 pub fn too_long(out: &mut Out) -> io::Result<()> {
     writeln!(out, "input too long")
@@ -30,15 +27,16 @@ fn answer_line<F: FnMut(&mut Out, &[u8]) -> io::Result<bool>>(
     writeln!(out, "? unknown query")
 }
 
-// Answers all lines of the input, of which `answer` knows the queries: it says whether it knows a line's.
+// Answers all lines of the input, of which at most `most` bytes were read. `answer` knows the queries: it says whether it knows a line's.
 pub fn replay<F: FnMut(&mut Out, &[u8]) -> io::Result<bool> + Drop>(
     out: &mut Out,
     input: &[u8],
+    most: usize,
     answer: F,
 ) -> io::Result<()>
     requires { (f : _) (out : _) (line : _) → F.pre f out line }
 {
-    if input.len() == MOST {
+    if input.len() == most {
         return too_long(out);
     }
     if input.is_empty() {
@@ -52,9 +50,9 @@ pub fn replay<F: FnMut(&mut Out, &[u8]) -> io::Result<bool> + Drop>(
     Ok(())
 }
 
-// Standard input, as far as it is read.
-pub fn read<R: Read + Drop>(alloc: Global, reader: R) -> io::Result<Vec<u8>> {
+// Standard input, of which at most `most` bytes are read. So many bytes may not be all of it.
+pub fn read<R: Read + Drop>(alloc: Global, reader: R, most: usize) -> io::Result<Vec<u8>> {
     let mut input = Vec::new(alloc);
-    reader.take(MOST as u64).read_to_end(&mut input)?;
+    reader.take(most as u64).read_to_end(&mut input)?;
     Ok(input)
 }

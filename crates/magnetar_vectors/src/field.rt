@@ -9,8 +9,10 @@ use std::alloc::Global;
 use std::io;
 use std::io::Write;
 
-// How many words are lent at most.
+// How many words are lent at most, and how many bits a query has.
 const MOST_WORDS: usize = 4096;
+
+const MOST_BITS: usize = 64;
 
 // chain 4 A B N: N times the product of A and B in the place of A, and the sum of B and the number of the turn in that
 // of B; A after that.
@@ -76,6 +78,9 @@ fn evalmle(alloc: Global, out: &mut Out, v: &[u64], p: &[u64]) -> io::Result<()>
 
 // eqat P BITS: the value of eq at the point and the bits.
 fn eqat(alloc: Global, out: &mut Out, p: &[u64], bits: &[u64]) -> io::Result<()> {
+    if bits.len() > MOST_BITS {
+        return writeln!(out, "? bits");
+    }
     let mut b = Vec::new(alloc);
     for bit in bits {
         b.push(*bit == 1)?;

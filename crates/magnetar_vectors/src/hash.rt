@@ -14,10 +14,12 @@ use std::alloc::Global;
 use std::io;
 use std::io::Write;
 
-// How many bytes of one value are hashed at most, and how many words are lent.
+// How many bytes of one value are hashed at most, how many words are lent, and how many lengths of parts a query has.
 const MOST_BYTES: usize = 1048576;
 
 const MOST_WORDS: usize = 4096;
+
+const MOST_LENGTHS: usize = 256;
 
 // A hash, after the number of the refusal where there is one.
 fn print_hash(out: &mut Out, answer: Result<[u8; 32], Refusal>) -> io::Result<()> {
@@ -86,7 +88,7 @@ fn hashes(
             sha3::sha3_domain(strings.between(0, all), strings.lens(0, all)),
         )?,
         b"partslens" => {
-            let lens = line::sizes(alloc, line::list_from(nums, 1, 0))?;
+            let lens = line::sizes_within(alloc, line::list_from(nums, 1, 0), MOST_LENGTHS)?;
             print_hash(out, sha3::sha3_domain(first, lens.as_slice()))?;
         }
         b"new" => print_new(
@@ -94,7 +96,7 @@ fn hashes(
             transcript::new(first, strings.between(1, all), strings.lens(1, all)),
         )?,
         b"newlens" => {
-            let lens = line::sizes(alloc, line::list_from(nums, 2, 0))?;
+            let lens = line::sizes_within(alloc, line::list_from(nums, 2, 0), MOST_LENGTHS)?;
             print_new(out, transcript::new(first, strings.at(1), lens.as_slice()))?;
         }
         _ => return Ok(false),

@@ -13,6 +13,9 @@ use std::alloc::Global;
 use std::io;
 use std::io::{BufWriter, Write};
 
+// How much is read, a mebibyte: the input is shorter.
+const MOST_INPUT: usize = 1048576;
+
 // How many numbers a query may have, how many byte strings, and how many letters where it has these.
 const MOST: usize = 4096;
 
@@ -46,10 +49,11 @@ fn answer(alloc: Global, out: &mut Out, text: &[u8]) -> io::Result<bool> {
 fn main(rt: HostRuntime) -> io::Result<()> {
     let alloc = rt.alloc();
     let mut out = BufWriter::new(alloc, rt.stdout())?;
-    let input = replay::read(alloc, rt.reader())?;
+    let input = replay::read(alloc, rt.reader(), MOST_INPUT)?;
     replay::replay(
         &mut out,
         input.as_slice(),
+        MOST_INPUT,
         |out, text| answer(alloc, out, text),
     )?;
     out.flush()

@@ -10,12 +10,14 @@ use std::alloc::Global;
 use std::io;
 use std::io::Write;
 
-// How many words are lent at most, to be written to and as scratch, and how many offsets.
+// How many words are lent at most, to be written to and as scratch, how many offsets, and how many rows, columns or lengths a query has.
 const MOST_WORDS: usize = 4096;
 
 const MOST_SCRATCH: usize = 1024;
 
 const MOST_OFFSETS: usize = 128;
+
+const MOST_SIZES: usize = 128;
 
 // foldinst LENT SCRATCH V P
 fn instances(alloc: Global, out: &mut Out, nums: &[u64]) -> io::Result<()> {
@@ -60,7 +62,7 @@ fn publics(alloc: Global, out: &mut Out, nums: &[u64]) -> io::Result<()> {
     }
     let mut scratch = line::marked(alloc, MOST_SCRATCH)?;
     let half = room.as_slice();
-    let half = half.get(..w.saturating_mul(2)).unwrap_or(half);
+    let half = half.get(..2 * w.min(MOST_SCRATCH / 2)).unwrap_or(half);
     let value = multilinear::eval_mle(half, line::list_from(nums, 3, 2), scratch.as_mut_slice());
     show::answer(out, value.map(Element))
 }
@@ -96,7 +98,7 @@ fn reading(out: &mut Out, i: usize, w: usize, lens: &[usize]) -> io::Result<()> 
 
 // Answers a query on a layout, or says that it is none: LENT or a segment's number, W, the lengths, and for segment the folded vector.
 fn layouts(alloc: Global, out: &mut Out, name: &[u8], nums: &[u64]) -> io::Result<bool> {
-    let lens = line::sizes(alloc, line::list_from(nums, 2, 0))?;
+    let lens = line::sizes_within(alloc, line::list_from(nums, 2, 0), MOST_SIZES)?;
     let lens = lens.as_slice();
     let n = line::size(nums, 0);
     let w = line::size(nums, 1);
@@ -115,7 +117,7 @@ fn layouts(alloc: Global, out: &mut Out, name: &[u8], nums: &[u64]) -> io::Resul
 // Answers a query on matrices, folds and layouts, or says that it is none.
 pub(crate) fn answer(alloc: Global, out: &mut Out, name: &[u8], nums: &[u64]) -> io::Result<bool> {
     if let Some(function) = Function::named(name) {
-        let places = Places::new(alloc, nums)?;
+        let places = Places::new(alloc, nums, MOST_SIZES)?;
         let told = function.asked(alloc, nums, &places.slices(nums))?;
         function.write(out, &told)?;
         return Ok(true);

@@ -3,7 +3,7 @@
 // the terminal values and whether all was right.
 use magnetar_field::gf128::{Gf128, ONE, ZERO};
 use magnetar_field::refusal::Refusal;
-use magnetar_field::{sizes, words};
+use magnetar_field::words;
 use magnetar_multilinear::eq::EqBits;
 use magnetar_multilinear::multilinear;
 use magnetar_replay::show::{Element, Out, Words};
@@ -19,6 +19,13 @@ use std::io::Write;
 const MOST_WORDS: usize = 4096;
 
 const TABLE: usize = 128;
+
+// Where the tables A, B and C of an outer one begin, behind that of eq.
+const A: usize = TABLE;
+
+const B: usize = 2 * TABLE;
+
+const C: usize = 3 * TABLE;
 
 // In which order n variables are bound: the highest ones in the first `high` rounds, then the lowest ones.
 #[derive(Clone, Copy)]
@@ -46,9 +53,10 @@ impl Order {
         }
     }
 
-    // How many words a table has before round i.
+    // How many words a table has before round i; none where 20 variables or more are left.
     fn words(self, i: usize) -> usize {
-        sizes::power_of_two(self.n.saturating_sub(i)).saturating_mul(2)
+        let left = self.n.saturating_sub(i);
+        if left < 20 { 2 << left } else { 0 }
     }
 }
 
@@ -86,6 +94,20 @@ fn first(s: &[u64], n: usize) -> &[u64] {
     s.get(..n).unwrap_or(s)
 }
 
+// The n words from index i on, or none where they are fewer.
+fn span(s: &[u64], i: usize, n: usize) -> &[u64] {
+    s.get(i..i.saturating_add(n)).unwrap_or(&[])
+}
+
+fn span_mut(s: &mut [u64], i: usize, n: usize) -> &mut [u64] {
+    let k = i.saturating_add(n);
+    if i <= k && k <= s.len() {
+        &mut s[i..k]
+    } else {
+        &mut s[..0]
+    }
+}
+
 // What a message leaves of the claim, written behind it.
 fn judge(out: &mut Out, msg: &[u64], n: usize, claim: Gf128, r: Gf128) -> io::Result<Round> {
     let round = verify::round_external(msg, n, claim, r).unwrap_or(Round {
@@ -107,13 +129,11 @@ fn fold(out: &mut Out, table: &mut [u64], v: usize, r: Gf128) -> io::Result<()> 
     show::listed(out, first(table, table.len() / 2))
 }
 
-// The tables of an outer sum-check, and the product of eq over the bound variables.
+// The tables of an outer sum-check, one behind the other, and the product of eq over the bound variables. A table of more than TABLE words
+// goes on over those of the tables behind it.
 #[derive(Drop)]
 struct Tables {
-    e: Vec<u64>,
-    a: Vec<u64>,
-    b: Vec<u64>,
-    c: Vec<u64>,
+    words: Vec<u64>,
     k: Gf128,
 }
 
@@ -129,25 +149,26 @@ impl Tables {
         t: Gf128,
         r: Gf128,
     ) -> io::Result<Run> {
-        if public::drop_var(front(self.e.as_mut_slice(), n), v).is_err() {
+        let w = self.words.as_mut_slice();
+        if public::drop_var(front(w, n), v).is_err() {
             return Ok(run);
         }
         let mut msg = [0u64; 8];
         let made = engine::outer_message(
             &mut msg,
-            first(self.e.as_slice(), n / 2),
-            first(self.a.as_slice(), n),
-            first(self.b.as_slice(), n),
-            first(self.c.as_slice(), n),
+            first(w, n / 2),
+            span(w, A, n),
+            span(w, B, n),
+            span(w, C, n),
             v,
             self.k,
             t,
         );
         let round = judge(out, &msg, 4, run.claim, r)?;
         self.k = public::eq_next(self.k, t, r);
-        fold(out, front(self.a.as_mut_slice(), n), v, r)?;
-        fold(out, front(self.b.as_mut_slice(), n), v, r)?;
-        fold(out, front(self.c.as_mut_slice(), n), v, r)?;
+        fold(out, span_mut(w, A, n), v, r)?;
+        fold(out, span_mut(w, B, n), v, r)?;
+        fold(out, span_mut(w, C, n), v, r)?;
         Ok(run.after(round, made))
     }
 }
@@ -158,14 +179,13 @@ fn outer(alloc: Global, out: &mut Out, nums: &[u64]) -> io::Result<()> {
     let claim = words::get(line::list_from(nums, 1, 0), 0);
     let tau = line::list_from(nums, 1, 1);
     let r = line::list_from(nums, 1, 5);
-    let mut tables = Tables {
-        e: table(alloc, &[])?,
-        a: table(alloc, line::list_from(nums, 1, 2))?,
-        b: table(alloc, line::list_from(nums, 1, 3))?,
-        c: table(alloc, line::list_from(nums, 1, 4))?,
-        k: ONE,
-    };
-    let built = EqBits::build(tau, ONE, tables.e.as_mut_slice());
+    let mut words = vec![in alloc; 0u64; 4 * TABLE]?;
+    let w = words.as_mut_slice();
+    words::copy(line::list_from(nums, 1, 2), span_mut(w, A, TABLE));
+    words::copy(line::list_from(nums, 1, 3), span_mut(w, B, TABLE));
+    words::copy(line::list_from(nums, 1, 4), span_mut(w, C, TABLE));
+    let built = EqBits::build(tau, ONE, front(w, TABLE));
+    let mut tables = Tables { words, k: ONE };
     let order = Order {
         high,
         n: r.len() / 2,
@@ -176,9 +196,10 @@ fn outer(alloc: Global, out: &mut Out, nums: &[u64]) -> io::Result<()> {
         run = tables.round(out, run, order.words(i), order.bit(i), t, words::get(r, i))?;
     }
     let e = public::eq_points(tau, r, high).unwrap_or(ZERO);
-    let a = words::get(tables.a.as_slice(), 0);
-    let b = words::get(tables.b.as_slice(), 0);
-    let c = words::get(tables.c.as_slice(), 0);
+    let w = tables.words.as_slice();
+    let a = words::get(w, A / 2);
+    let b = words::get(w, B / 2);
+    let c = words::get(w, C / 2);
     let ends = [e.lo, e.hi, a.lo, a.hi, b.lo, b.hi, c.lo, c.hi];
     let ends = Words(&ends);
     let good = run.good && verify::outer_finish(run.claim, e, a, b, c);
