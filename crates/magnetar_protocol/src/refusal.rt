@@ -1,4 +1,5 @@
-// The refusals 1, 4 and 8 to 10 of a run, by its sizes and its segments.
+// The refusals 1, 4 and 8 to 10 of a run, by its sizes and its segments. Here and in the crates above, m, q, rb and rf stay numbers of their
+// own where they are tested: no Rounds can be made of those that are refused.
 ghost use Rattle.std.specs.Prelude.{◌≡◌, ◌≤◌};
 ghost use Rattle.magnetar_field.specs.Number.{number_of};
 ghost use Rattle.magnetar_layout.specs.Tests.{first_refusal, size_tests, rows_tests};

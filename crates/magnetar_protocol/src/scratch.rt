@@ -1,4 +1,5 @@
-// How many words of scratch both ends of a run ask for.
+// How many words of scratch both ends of a run ask for. C gives m, q, rb and rf one by one, and the words are counted by them, not by their
+// logarithms.
 ghost use Rattle.std.specs.Prelude.{◌≡◌, ◌+◌, ◌*◌, ◌≤◌};
 ghost use Rattle.magnetar_protocol.specs.Scratch.{verifier_scratch, prover_scratch, verifier_scratch_words, prover_scratch_words, asked};
 

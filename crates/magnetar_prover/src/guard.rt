@@ -106,7 +106,7 @@ pub(crate) fn table_words(q: usize, n: usize) -> usize
     2 * (q * n)
 }
 
-// The words of both blocks.
+// The words of both blocks, which are counted by the sizes and not by their logarithms.
 pub(crate) fn block_words(q: usize, rb: usize, rf: usize) -> usize
     requires { (q * rb ≤ 1048576) × (q * rf ≤ 1048576) }
     ensures { result ≡ block_words q rb rf }

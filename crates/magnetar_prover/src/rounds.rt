@@ -148,6 +148,7 @@ fn run(z: Sizes, proof: &mut [u64], draws: &mut [u64], s: &mut [u64], t: Transcr
 // The outer rounds of q logins with rb rows of bin and rf rows of fld. The products of bin are in the second to fourth table of 2 q rb
 // words of s, those of fld in the second to fourth table of 2 q rf words behind its first 8 q rb. What is sent goes to the front of
 // proof, what is drawn to the front of draws; the 8 q (rb + rf) words of s are cleared.
+// The sizes are tested here, and so stay numbers.
 // 1: no such logins; 4: no such rows; 14: a counter of 2^32 or more; 15: too little room.
 #[tactic(auto, using(crate::proofs::Handed::handed_back, crate::proofs::OuterGuard::fitting))]
 pub fn outer_rounds(

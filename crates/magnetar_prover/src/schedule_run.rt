@@ -173,7 +173,7 @@ fn inner(s: Stage, c: usize, n: usize, proof: &[u64], out: &mut [u64]) -> Stage
 }
 
 // The first `to` events of the schedule of these sizes, played with the proof's elements; the words of the elements drawn are
-// written to the front of `draws`, as many as there is room for.
+// written to the front of `draws`, as many as there is room for. The schedule is one of sizes, not of their logarithms.
 fn events_to(
     m: usize,
     q: usize,

@@ -89,7 +89,8 @@ pub(crate) struct Places {
     pub d: usize,
 }
 
-// Shared round i, with h shared rounds left, this one among them, and b and f row rounds behind them.
+// Shared round i, with h shared rounds left, this one among them, and b and f row rounds behind them. These two are less than a Rounds, and
+// what is left of the shared rounds changes from round to round: a struct of the three would be made anew for each.
 fn shared_round(
     i: usize,
     h: usize,
