@@ -49,7 +49,7 @@ fn system(nums: &[u64], i: usize) -> SystemShape {
     }
 }
 
-// The records of four lists, or None where they are not of one length, or too long.
+// The records of four lists, as a query has them, or None where they are not of one length, or too long.
 fn records(
     alloc: Global,
     row: &[usize],

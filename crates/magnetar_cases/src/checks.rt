@@ -70,6 +70,7 @@ fn value_at(t: &mut [u64], point: &[u64]) -> Gf128 {
 // The value of the public half at the low point, the inner one without its last element. The half is folded at the point of the logins,
 // with which the claims begin, behind the first m elements.
 fn half_value(proof: &[u64], draws: &[u64], case: &Case, scratch: &mut [u64]) -> Gf128 {
+    // As many words as the claims of a run can have, since a query may ask for fewer than it needs here.
     let mut claims = [0u64; 256];
     let _claimed = claimed(proof, draws, case, &mut claims);
     let point = first(&claims, 2 * log2(case.q));

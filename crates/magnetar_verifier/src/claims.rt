@@ -42,7 +42,7 @@ fn write_in(out: &mut [u64], proof: &[u64], draws: &[u64], r: Rounds, l: usize)
 // Writes the claims of a run over q logins with m columns, rb rows of bin and rf rows of fld, and these segment lengths, as words at the
 // front of claims: r_inst, the shared challenges reversed; r_low, the inner challenges but the last; the segment values.
 // 1: no such columns or logins; 4: no such rows; 8, 9, 10: no such layout over m / 2 columns; 11: not the words of as many draws as a run
-// makes; 15: too little room; 16: not the words of a proof.
+// makes; 15: too little room; 16: not the words of a proof. The sizes stay numbers: none that is refused has a Rounds.
 pub fn write_claims(
     m: usize,
     q: usize,

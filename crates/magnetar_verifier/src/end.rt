@@ -145,7 +145,7 @@ fn end_phases(
 // in place of the six matrices combined at the row points and taken at the inner point, and p in place of the public half folded over the
 // logins and taken at the low point: the first that does not pass, in the order of the run.
 // 1: no such columns or logins; 4: no such rows; 8, 9, 10: no such layout over m / 2 columns; 11: not the words of as many draws as a run
-// makes; 16: not the words of a proof. These stop it before any event.
+// makes; 16: not the words of a proof. These stop it before any event. So the sizes stay numbers: none that is refused has a Rounds.
 pub fn end_checks(
     m: usize,
     q: usize,

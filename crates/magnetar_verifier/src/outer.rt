@@ -214,7 +214,7 @@ pub(crate) fn sized(
 // The checks 21 to 26 of a run over q logins with m columns, rb rows of bin and rf rows of fld, and these segment lengths: the
 // first that does not pass, in the order of the run.
 // 1: no such columns or logins; 4: no such rows; 8, 9, 10: no such layout over m / 2 columns; 11: not the words of as many draws as a run
-// makes; 16: not the words of a proof. These stop it before any event.
+// makes; 16: not the words of a proof. These stop it before any event. So the sizes stay numbers: none that is refused has a Rounds.
 pub fn outer_checks(
     m: usize,
     q: usize,
