@@ -1,6 +1,7 @@
 pub mod TableWords
 pub mod StepLaws
 pub mod ToldLaws
+pub mod WithinLaws
 pub mod RuleLaws
 pub mod RangeLaws
 pub mod MaskLaws

@@ -11,8 +11,8 @@ use borrow.Author.Tests.{ltb-false, eqb-true, not-false}
 use Rattle.magnetar_layout.specs.Tests.{Tests, first_refusal}
 use Rattle.magnetar_layout.proofs.FirstRefusal.{first-refusal-clear, first-refusal-append, first-refusal-kept, first-refusal-rest}
 use Rattle.magnetar_matrix.specs.Matrix.{Entry}
-use Rattle.magnetar_matrix.specs.Lent.{entries_of}
-use Rattle.magnetar_matrix.specs.Numbers.{Numbers, entries_by, counts, record_numbers, entry_of}
+use Rattle.magnetar_matrix.specs.Lent.{entries_of, matrix_of}
+use Rattle.magnetar_matrix.specs.Numbers.{Numbers, entries_by, lent_by, counts, record_numbers, entry_of}
 use Rattle.magnetar_matrix.specs.declared.entries.Entry as code
 use Rattle.magnetar_matrix.proofs.EntryLists.{entries-length, records_are, map-length}
 use Rattle.magnetar_relation.specs.declared.shapes.SystemShape.{SystemShape}
@@ -83,6 +83,20 @@ unfolding in_relation
 rules-told m q ns s N b z e f =
     f ∙ told m q s (length N.row) (length N.col) (length N.lo) (length N.hi) (entries_by N)
     (λ i j k n. entries-equal N.row N.col N.lo N.hi (j ∙ sym i) (k ∙ sym i) (n ∙ sym i) ∙ i) b e
+
+-- the same of entries in no form
+pub rules-told-over : (m q : ℕ) (ns : List ℕ) (s : Shapes) (es : List Entry) (b : Bool) (z : ℕ) → b ≡ every_from (lies_at s) 0 es
+    → z ≡ first_refusal 0 (rule_tests_by m q s (length es ∷ length es ∷ length es ∷ length es ∷ []) b)
+    → z ≡ first_refusal 0 (rule_tests (rules_over m q ns s es))
+unfolding in_relation
+rules-told-over m q ns s es b z e f =
+    f ∙ told m q s (length es) (length es) (length es) (length es) es (λ i j k n. i) b e
+
+-- the matrix that is lent as records
+pub matrix-of : (n m : ℕ) (es : List code.Entry)
+    → matrix_of (lent_by n m (record_numbers es)) ≡ record { rows = n; cols = m; entries = map entry_of es }
+unfolding matrix_of
+matrix-of n m es = ap (λ (l : List Entry). record { rows = n; cols = m; entries = l }) (records_are es)
 
 -- the numbers of records give the relation that is lent as records
 pub rules-records : (m q : ℕ) (ns : List ℕ) (s : Shapes) (es : List code.Entry)

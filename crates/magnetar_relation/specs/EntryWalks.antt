@@ -2,7 +2,7 @@
 -- private functions, and of the steps that other crates call, cite these definitions.
 -- Source: document 01, "Forms that give way" (entries as number slices and as records): both are read entry by entry.
 -- Assumes nothing.
-use Rattle.std.specs.Prelude.{Bool, true, cond, ◌&&◌, List, [], ◌∷◌, ℕ, suc, ◌-◌, ltb}
+use Rattle.std.specs.Prelude.{Bool, true, cond, ◌&&◌, List, [], ◌∷◌, ℕ, suc, ◌-◌, ltb, leb}
 use Rattle.magnetar_matrix.specs.Matrix.{Entry}
 use Rattle.magnetar_relation.specs.declared.shapes.Shape.{Shape}
 use Rattle.magnetar_relation.specs.declared.shapes.SystemShape.{SystemShape}
@@ -34,3 +34,8 @@ every_from p i (e ∷ es) = p i e && every_from p (suc i) es
 unfoldable pub fold_entries : (Entry → List ℕ → List ℕ) → List Entry → List ℕ → List ℕ
 fold_entries g [] t = t
 fold_entries g (e ∷ es) t = fold_entries g es (g e t)
+
+-- the same of those whose index, from i on, is from a to b
+unfoldable pub fold_entries_within : (Entry → List ℕ → List ℕ) → (a b i : ℕ) → List Entry → List ℕ → List ℕ
+fold_entries_within g a b i [] t = t
+fold_entries_within g a b i (e ∷ es) t = fold_entries_within g a b (suc i) es (cond (leb a i && ltb i b) (g e t) t)
