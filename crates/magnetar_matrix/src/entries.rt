@@ -15,6 +15,14 @@ pub struct Entry {
     pub hi: u64,
 }
 
+// What is read where there is none.
+const NO_ENTRY: Entry = Entry {
+    row: 0,
+    col: 0,
+    lo: 0,
+    hi: 0,
+};
+
 impl Entry {
     // Its value.
     #[inline]
@@ -36,9 +44,8 @@ pub trait Entries {
     fn len(&self) -> usize
         ensures { result ≡ length (entries_by (numbers self.now)) };
 
-    // Entry i.
+    // Entry i; a number that is not there is 0.
     fn at(&self, i: usize) -> Entry
-        requires { i < length (entries_by (numbers self.now)) }
         ensures row { result.row ≡ slice_index (numbers self.now).row i }
         ensures col { result.col ≡ slice_index (numbers self.now).col i }
         ensures lo { result.lo ≡ slice_index (numbers self.now).lo i }
@@ -72,10 +79,10 @@ impl Entries for Slices<'_> {
     #[inline]
     fn at(&self, i: usize) -> Entry {
         Entry {
-            row: self.row[i],
-            col: self.col[i],
-            lo: self.lo[i],
-            hi: self.hi[i],
+            row: self.row.get(i).copied().unwrap_or(0),
+            col: self.col.get(i).copied().unwrap_or(0),
+            lo: self.lo.get(i).copied().unwrap_or(0),
+            hi: self.hi.get(i).copied().unwrap_or(0),
         }
     }
 
@@ -101,7 +108,7 @@ impl Entries for Records<'_> {
 
     #[inline]
     fn at(&self, i: usize) -> Entry {
-        self.entries[i]
+        self.entries.get(i).copied().unwrap_or(NO_ENTRY)
     }
 
     fn counts(&self) -> [usize; 4] {
@@ -171,7 +178,11 @@ impl<E: Entries> Entries for Part<'_, E> {
 
     #[inline]
     fn at(&self, i: usize) -> Entry {
-        self.entries.at(self.from + i)
+        if i < self.to.saturating_sub(self.from) {
+            self.entries.at(self.from + i)
+        } else {
+            NO_ENTRY
+        }
     }
 
     fn counts(&self) -> [usize; 4] {
