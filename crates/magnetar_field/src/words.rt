@@ -42,6 +42,9 @@ pub fn clear(s: &mut [u64])
 pub fn copy(src: &[u64], dst: &mut [u64])
     ensures { dst.new ≡ overlaid src.now dst.old }
 {
+    // Word by word: `copy_from_slice` would have the library for C need memmove.
     let n = src.len().min(dst.len());
-    dst[..n].copy_from_slice(&src[..n]);
+    for i in 0..n {
+        dst[i] = src[i];
+    }
 }

@@ -5,6 +5,7 @@ use Rattle.std.specs.Prelude.{List, [], ◌∷◌, ℕ, ◌-◌, map, length, ta
 use Rattle.magnetar_matrix.specs.Matrix as matrix
 use Rattle.magnetar_matrix.specs.Lent.{Lent, lent, entry, entries_of}
 use Rattle.magnetar_matrix.specs.declared.entries.Entry.{Entry}
+use Rattle.magnetar_matrix.specs.declared.entries.Slices.{Slices}
 
 -- the rows, the columns, the low and the high words of the values
 pub record Numbers : Type 0 where
@@ -37,6 +38,10 @@ part a b s = record {
   lo = take (b - a) (drop a s.lo);
   hi = take (b - a) (drop a s.hi);
 }
+
+-- the numbers of four slices
+abbrev pub slice_numbers : Slices → Numbers
+slice_numbers s = record { row = s.row.now; col = s.col.now; lo = s.lo.now; hi = s.hi.now }
 
 -- ---- records
 -- the entry that a record is

@@ -1,8 +1,8 @@
 // The entries of a matrix, or of several that lie one behind the other, in whichever form they are lent: as four parallel number slices or as
 // one slice of records.
-ghost use Rattle.std.specs.Prelude.{◌≡◌, ◌<◌, ◌-◌, length, min, slice_index};
+ghost use Rattle.std.specs.Prelude.{◌≡◌, ◌-◌, length, min, take, drop, slice_index, IfSome};
 ghost use Rattle.magnetar_field.specs.Gf128.{value};
-ghost use Rattle.magnetar_matrix.specs.Numbers.{Numbers, entry_of, entries_by, counts, record_numbers, exchanged, part};
+ghost use Rattle.magnetar_matrix.specs.Numbers.{Numbers, entry_of, entries_by, counts, slice_numbers, record_numbers, exchanged, part};
 
 use magnetar_field::gf128::Gf128;
 
@@ -54,6 +54,13 @@ pub trait Entries {
     // How many numbers each list has.
     fn counts(&self) -> [usize; 4]
         ensures { result ≡ counts (numbers self.now) };
+
+    // The four lists as slices, where they lie in memory as such. A walk over these is faster: it need not look them up for each entry.
+    fn as_slices(&self) -> Option<Slices<'_>>
+        ensures { IfSome result (λ s. slice_numbers s ≡ numbers self.now) }
+    {
+        None
+    }
 }
 
 // Entries as four parallel slices.
@@ -67,7 +74,7 @@ pub struct Slices<'a> {
 
 #[tactic(auto, using(crate::proofs::EntryLists::lengths))]
 impl Entries for Slices<'_> {
-    ghost numbers = { λ s. record { row = s.row.now; col = s.col.now; lo = s.lo.now; hi = s.hi.now } };
+    ghost numbers = { slice_numbers };
 
     #[inline]
     fn len(&self) -> usize {
@@ -78,6 +85,36 @@ impl Entries for Slices<'_> {
 
     #[inline]
     fn at(&self, i: usize) -> Entry {
+        if i < self.len() {
+            Entry {
+                row: self.row[i],
+                col: self.col[i],
+                lo: self.lo[i],
+                hi: self.hi[i],
+            }
+        } else {
+            self.past(i)
+        }
+    }
+
+    fn counts(&self) -> [usize; 4] {
+        [self.row.len(), self.col.len(), self.lo.len(), self.hi.len()]
+    }
+
+    #[inline]
+    fn as_slices(&self) -> Option<Slices<'_>> {
+        Some(*self)
+    }
+}
+
+impl Slices<'_> {
+    // The numbers at index i, where not every slice has one.
+    fn past(&self, i: usize) -> Entry
+        ensures row { result.row ≡ slice_index self.now.row.now i }
+        ensures col { result.col ≡ slice_index self.now.col.now i }
+        ensures lo { result.lo ≡ slice_index self.now.lo.now i }
+        ensures hi { result.hi ≡ slice_index self.now.hi.now i }
+    {
         Entry {
             row: self.row.get(i).copied().unwrap_or(0),
             col: self.col.get(i).copied().unwrap_or(0),
@@ -86,9 +123,27 @@ impl Entries for Slices<'_> {
         }
     }
 
-    fn counts(&self) -> [usize; 4] {
-        [self.row.len(), self.col.len(), self.lo.len(), self.hi.len()]
+    // Those from one place to another, of each slice as many as there are.
+    #[inline]
+    fn part(self, from: usize, to: usize) -> Self
+        ensures { slice_numbers result ≡ part from to (slice_numbers self.entry) }
+    {
+        Slices {
+            row: cut(self.row, from, to),
+            col: cut(self.col, from, to),
+            lo: cut(self.lo, from, to),
+            hi: cut(self.hi, from, to),
+        }
     }
+}
+
+// Those from one place to another, as many as there are.
+#[inline]
+fn cut<'a, T>(s: &'a [T], from: usize, to: usize) -> &'a [T]
+    ensures { result.now ≡ take (to - from) (drop from s.now) }
+{
+    let end = to.min(s.len());
+    &s[from.min(end)..end]
 }
 
 // Entries as one slice of records.
@@ -147,6 +202,17 @@ impl<E: Entries> Entries for Exchanged<'_, E> {
         let n = self.entries.counts();
         [n[1], n[0], n[2], n[3]]
     }
+
+    #[inline]
+    fn as_slices(&self) -> Option<Slices<'_>> {
+        let s = self.entries.as_slices()?;
+        Some(Slices {
+            row: s.col,
+            col: s.row,
+            lo: s.lo,
+            hi: s.hi,
+        })
+    }
 }
 
 // The entries from one place to another, as far as there are any.
@@ -193,5 +259,11 @@ impl<E: Entries> Entries for Part<'_, E> {
             self.held(n[2]),
             self.held(n[3]),
         ]
+    }
+
+    #[inline]
+    fn as_slices(&self) -> Option<Slices<'_>> {
+        let s = self.entries.as_slices()?;
+        Some(s.part(self.from, self.to))
     }
 }

@@ -35,8 +35,8 @@ fn write_in(out: &mut [u64], proof: &[u64], draws: &[u64], r: Rounds, l: usize)
     let a = 2 * r.shared as usize;
     let e = a + 2 * n;
     reversed(&mut out[..a], piece(draws, r.taus(), r.shared as usize));
-    out[a..e].copy_from_slice(piece(draws, r.alphas() + 6, n));
-    out[e..].copy_from_slice(piece(proof, r.end() + 1, l));
+    words::copy(piece(draws, r.alphas() + 6, n), &mut out[a..e]);
+    words::copy(piece(proof, r.end() + 1, l), &mut out[e..]);
 }
 
 // Writes the claims of a run over q logins with m columns, rb rows of bin and rf rows of fld, and these segment lengths, as words at the
