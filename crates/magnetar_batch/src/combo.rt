@@ -21,6 +21,17 @@ use magnetar_relation::{range, rules, step};
 pub(crate) fn add_columns<E: Entries>(m: usize, n: usize, s: &mut [u64], es: &E)
     ensures { s.new ≡ fold_entries (column_added m n) (entries_by (E.numbers es.now)) s.old }
 {
+    match es.as_slices() {
+        Some(t) => columns_of(m, n, s, &t),
+        None => columns_of(m, n, s, es),
+    }
+}
+
+// The walk itself.
+#[inline(always)]
+fn columns_of<E: Entries>(m: usize, n: usize, s: &mut [u64], es: &E)
+    ensures { s.new ≡ fold_entries (column_added m n) (entries_by (E.numbers es.now)) s.old }
+{
     for i in 0..es.len() {
         table::add_column(m, n, s, es.at(i));
     }

@@ -103,6 +103,19 @@ fn product<E: Entries>(s: &mut [u64], m: usize, n: usize, of: Login<'_>, es: &E)
         ≡ fold_entries (share_added m n (z_of of.entry.w of.entry.bits.now (elements of.entry.x.now))) (entries_by (E.numbers es.now))
         (behind m (cleared_to n) s.old) }
 {
+    match es.as_slices() {
+        Some(t) => product_of(s, m, n, of, &t),
+        None => product_of(s, m, n, of, es),
+    }
+}
+
+// The walk itself.
+#[inline(always)]
+fn product_of<E: Entries>(s: &mut [u64], m: usize, n: usize, of: Login<'_>, es: &E)
+    ensures { s.new
+        ≡ fold_entries (share_added m n (z_of of.entry.w of.entry.bits.now (elements of.entry.x.now))) (entries_by (E.numbers es.now))
+        (behind m (cleared_to n) s.old) }
+{
     clear_behind(s, m, n);
     for i in 0..es.len() {
         add_share(s, m, n, of, es.at(i));

@@ -2,7 +2,8 @@
 ghost use Rattle.std.specs.Prelude.{◌≡◌};
 ghost use Rattle.magnetar_matrix.specs.Table.{repeated};
 
-// The first k words are followed by k words, the same ones.
+// The first k words are followed by k words, the same ones. Within its caller the loop would have too few registers.
+#[inline(never)]
 pub fn repeats(s: &[u64], k: usize) -> bool
     ensures { result ≡ repeated k s.now }
 {

@@ -32,6 +32,18 @@ fn add_flips<E: Entries>(es: &E, w: usize, login: &[u64], t: usize, out: &mut [u
     requires { t < 64 }
     ensures { out.new ≡ raised (row_total (flip w login.now t) (entries_by (E.numbers es.now))) out.old }
 {
+    match es.as_slices() {
+        Some(s) => flips_of(&s, w, login, t, out),
+        None => flips_of(es, w, login, t, out),
+    }
+}
+
+// The walk itself.
+#[inline(always)]
+fn flips_of<E: Entries>(es: &E, w: usize, login: &[u64], t: usize, out: &mut [u64])
+    requires { t < 64 }
+    ensures { out.new ≡ raised (row_total (flip w login.now t) (entries_by (E.numbers es.now))) out.old }
+{
     for i in 0..es.len() {
         add_flip(out, es.at(i), w, login, t);
     }

@@ -36,6 +36,17 @@ fn add_share(out: &mut [u64], e: Entry, factors: &[u64])
 pub(crate) fn add_product<E: Entries>(es: &E, factors: &[u64], out: &mut [u64])
     ensures { elements out.new ≡ raised (row_total (share (elements factors.now)) (entries_by (E.numbers es.now))) (elements out.old) }
 {
+    match es.as_slices() {
+        Some(s) => product_of(&s, factors, out),
+        None => product_of(es, factors, out),
+    }
+}
+
+// The walk itself.
+#[inline(always)]
+fn product_of<E: Entries>(es: &E, factors: &[u64], out: &mut [u64])
+    ensures { elements out.new ≡ raised (row_total (share (elements factors.now)) (entries_by (E.numbers es.now))) (elements out.old) }
+{
     for i in 0..es.len() {
         add_share(out, es.at(i), factors);
     }
@@ -57,6 +68,17 @@ fn add_public_share(out: &mut [u64], e: Entry, w: usize, x: &[u64])
 pub(crate) fn add_public<E: Entries>(es: &E, w: usize, x: &[u64], out: &mut [u64])
     ensures { elements out.new ≡ raised (row_total (public_share w (elements x.now)) (entries_by (E.numbers es.now))) (elements out.old) }
 {
+    match es.as_slices() {
+        Some(s) => public_of(&s, w, x, out),
+        None => public_of(es, w, x, out),
+    }
+}
+
+// The walk itself.
+#[inline(always)]
+fn public_of<E: Entries>(es: &E, w: usize, x: &[u64], out: &mut [u64])
+    ensures { elements out.new ≡ raised (row_total (public_share w (elements x.now)) (entries_by (E.numbers es.now))) (elements out.old) }
+{
     for i in 0..es.len() {
         add_public_share(out, es.at(i), w, x);
     }
@@ -73,6 +95,17 @@ fn add_bit_share(out: &mut [u64], e: Entry, w: usize, login: &[u64])
 
 // Adds the part of the product that comes from a login's bits.
 pub(crate) fn add_bits<E: Entries>(es: &E, w: usize, login: &[u64], out: &mut [u64])
+    ensures { elements out.new ≡ raised (row_total (bit_share w login.now) (entries_by (E.numbers es.now))) (elements out.old) }
+{
+    match es.as_slices() {
+        Some(s) => bits_of(&s, w, login, out),
+        None => bits_of(es, w, login, out),
+    }
+}
+
+// The walk itself.
+#[inline(always)]
+fn bits_of<E: Entries>(es: &E, w: usize, login: &[u64], out: &mut [u64])
     ensures { elements out.new ≡ raised (row_total (bit_share w login.now) (entries_by (E.numbers es.now))) (elements out.old) }
 {
     for i in 0..es.len() {

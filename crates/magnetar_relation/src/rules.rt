@@ -138,6 +138,17 @@ pub fn lies_at(s: Shapes, i: usize, e: Entry) -> bool
 fn all_inside<E: Entries>(s: Shapes, es: &E) -> bool
     ensures { result ≡ every_from (lies_at s) 0 (entries_by (E.numbers es.now)) }
 {
+    match es.as_slices() {
+        Some(t) => inside_of(s, &t),
+        None => inside_of(s, es),
+    }
+}
+
+// The walk itself.
+#[inline(always)]
+fn inside_of<E: Entries>(s: Shapes, es: &E) -> bool
+    ensures { result ≡ every_from (lies_at s) 0 (entries_by (E.numbers es.now)) }
+{
     for i in 0..es.len() {
         if !lies_at(s, i, es.at(i)) {
             return false;

@@ -5,7 +5,7 @@ use Rattle.magnetar_matrix.specs.Numbers.{entries_by}
 use Rattle.magnetar_matrix.specs.Packed.{z_of}
 use Rattle.magnetar_relation.specs.EntryWalks.{fold_entries}
 use Rattle.magnetar_check.specs.CheckSteps.{share_added}
-use Rattle.magnetar_check.proofs.check.product.Given as goal
+use Rattle.magnetar_check.proofs.check.product_of.Given as goal
 
 abbrev pub invariant-loop-i : goal.invariant-loop-i
 invariant-loop-i g l =

@@ -3,7 +3,7 @@ use lib.ListN.{drop_of_length-le}
 use Rattle.magnetar_matrix.specs.Numbers.{entries_by}
 use Rattle.magnetar_matrix.proofs.EntryLists.{next_entry}
 use Rattle.magnetar_relation.proofs.ToldLaws.{fold-more, fold-end}
-use Rattle.magnetar_check.proofs.check.product.Goals as goal
+use Rattle.magnetar_check.proofs.check.product_of.Goals as goal
 
 pub loop-i-preserved : goal.loop-i-preserved
 loop-i-preserved g c =

@@ -4,7 +4,7 @@ use Rattle.magnetar_matrix.specs.Numbers.{entries_by}
 use Rattle.magnetar_matrix.proofs.EntryLists.{next_entry}
 use Rattle.magnetar_relation.specs.Steps.{column_added}
 use Rattle.magnetar_relation.proofs.ToldLaws.{fold-more, fold-end}
-use Rattle.magnetar_batch.proofs.combo.add_columns.Goals as goal
+use Rattle.magnetar_batch.proofs.combo.columns_of.Goals as goal
 
 pub loop-i-preserved : goal.loop-i-preserved
 loop-i-preserved g c =

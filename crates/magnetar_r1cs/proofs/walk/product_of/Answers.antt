@@ -1,7 +1,7 @@
 use native.Mathlib.Omega.{arith}
 use Rattle.magnetar_matrix.proofs.Walked.{walked_start}
 use Rattle.magnetar_r1cs.proofs.Walks.{added, all-added}
-use Rattle.magnetar_r1cs.proofs.walk.add_product.Goals as goal
+use Rattle.magnetar_r1cs.proofs.walk.product_of.Goals as goal
 
 pub loop-i-init : goal.loop-i-init
 loop-i-init g c = walked_start _ _ _

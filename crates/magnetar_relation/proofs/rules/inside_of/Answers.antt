@@ -5,7 +5,7 @@ use Rattle.magnetar_matrix.specs.Numbers.{entries_by}
 use Rattle.magnetar_matrix.proofs.EntryLists.{next_entry}
 use Rattle.magnetar_relation.specs.EntryWalks.{lies_at}
 use Rattle.magnetar_relation.proofs.ToldLaws.{told-more, told-stop, told-end}
-use Rattle.magnetar_relation.proofs.rules.all_inside.Goals as goal
+use Rattle.magnetar_relation.proofs.rules.inside_of.Goals as goal
 
 pub returns-then-not-lies_at : goal.returns-then-not-lies_at
 returns-then-not-lies_at g c =
