@@ -7,3 +7,5 @@ pub mod RangeLaws
 pub mod MaskLaws
 pub mod StrayLaws
 pub mod LoginLaws
+pub mod WalkLaws
+pub mod Examples

@@ -4,3 +4,4 @@ pub mod EntryWalks
 pub mod Steps
 pub mod Ends
 pub mod Stray
+pub mod LoginSteps
