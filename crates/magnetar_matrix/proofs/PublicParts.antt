@@ -1,15 +1,19 @@
 -- The public words of a login among those of a batch: where they stand, when the next login has the same, and the columns that they hold.
 -- Assumes nothing.
-use mathlib.Core.Path.{◌≡◌, refl, sym, ◌∙◌}
+use mathlib.Core.Path.{◌≡◌, refl, sym, ap, ◌∙◌}
 use mathlib.Core.Bool.{Bool, true, false, ◌&&◌}
 use mathlib.Core.List.{List, []}
 use Prim.Native.Nat.{ℕ, zero, suc, ◌+◌, ◌-◌, ◌*◌, ◌^◌, ◌≤◌, ◌<◌}
 use native.Mathlib.Nat.{mul-le-mul_left, mul-le-mul_right, le_trans}
 use native.Mathlib.Omega.{arith}
-use lib.Dec.{ltb, leb, lit<}
+use lib.Dec.{eqb, ltb, leb, lit<}
 use lib.ListN.{length, get_or, take, drop, length-drop, length-take, get_or-eq_default}
-use lib.Seq.{get_or-take, get_or-drop, length-take-le, ext_get_or}
+use lib.Seq.{get_or-take, get_or-drop, length-take-le, ext_get_or, take_at}
 use borrow.Author.Tests.{eqb-true, ne_eqb, eq-eqb, ltb-true, ltb-false, le-leb, lt-leb, leb-true}
+use Rattle.std.specs.List.{starts_with}
+use Rattle.std.proofs.lemmas.List.{take-append-drop}
+use Rattle.std.proofs.lemmas.Bool.Decides.{Decides-eqb}
+use Rattle.std.proofs.lemmas.Slice.Eq.{starts_is}
 use Rattle.magnetar_field.specs.Words.{elements}
 use Rattle.magnetar_field.proofs.Elements.{elements-length, elements-below}
 use Rattle.magnetar_field.proofs.Tabulation.{tabulate-length, tabulate-get}
@@ -79,6 +83,30 @@ repeated-is k s r =
     ext_get_or 0 (take k (drop k s)) (take k s) (n ∙ sym m)
     (λ i h. let g : i < k = rw n at h in
     rw (get_or-take k (drop k s) i 0 g, get_or-drop k s i 0, get_or-take k s i 0 g) (sym (agree_at k s k b.1 i g)))
+
+-- and where they are, the first k words are repeated
+agree-same : (k : ℕ) (s : List ℕ) → take k (drop k s) ≡ take k s → (n : ℕ) → n ≤ k → agree k s n ≡ true
+agree-same k s e zero l = agree-start k s
+agree-same k s e (suc n) l =
+    let h : n < k = omega arith in
+    let same : get_or (take k (drop k s)) n 0 ≡ get_or (take k s) n 0 = ap (λ (t : List ℕ). get_or t n 0) e in
+    agree-more k s n (agree-same k s e n (omega arith))
+    (sym (get_or-take k s n 0 h) ∙ sym same ∙ get_or-take k (drop k s) n 0 h ∙ get_or-drop k s n 0)
+
+-- so they are where what is behind the first k words starts with these
+pub repeated-starts : (k : ℕ) (s : List ℕ) → 2 * k ≤ length s → (r : Bool) → r ≡ starts_with eqb (drop k s) (take k s) → r ≡ repeated k s
+repeated-starts k s l true e =
+    let d : length (take k s) ≡ k = length-take-le k s (omega arith) in
+    let whole = (starts_is Decides-eqb (drop k s) (take k s) true e).0 refl in
+    let same : take k (drop k s) ≡ take k s = rw whole (take_at (take k s) (drop (length (take k s)) (drop k s)) k d) in
+    sym (repeated-some k s l (agree-same k s same k (omega arith)))
+repeated-starts k s l false e = go (repeated k s) refl
+  where
+    go : (b : Bool) → repeated k s ≡ b → false ≡ repeated k s
+    go false h = sym h
+    go true h =
+        let part = (starts_is Decides-eqb (drop k s) (take k s) false e).1 (drop k (drop k s)) in
+        part (rw (← repeated-is k s h) (sym (take-append-drop k (drop k s)))) ∙ sym h
 
 -- ---- the public words of a login are a part of those of the batch
 pub public-most : (q w : ℕ) → q ≤ 4096 → w ≤ 32768 → q * public_words w ≤ 268435456

@@ -93,7 +93,8 @@ fn add_bit_share(out: &mut [u64], e: Entry, w: usize, login: &[u64])
     }
 }
 
-// Adds the part of the product that comes from a login's bits.
+// Adds the part of the product that comes from a login's bits. Within a large caller the walk would have too few registers.
+#[inline(never)]
 pub(crate) fn add_bits<E: Entries>(es: &E, w: usize, login: &[u64], out: &mut [u64])
     ensures { elements out.new ≡ raised (row_total (bit_share w login.now) (entries_by (E.numbers es.now))) (elements out.old) }
 {
