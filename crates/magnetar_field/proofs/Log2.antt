@@ -1,6 +1,6 @@
 -- The logarithm to the base 2 by halving.
 -- Assumes nothing.
-use Rattle.std.proofs.Common.{◌≡◌, ℕ, zero, suc, ◌+◌, ◌-◌, ◌*◌, ◌/◌, ◌%◌, ◌^◌, ◌<◌, ◌≤◌, refl, ap, ◌∙◌, mod-eq_of_lt, pow-suc, lt_of_not-le, arith, pow_pos, pow_mono, pow-add, le-ltb, lt-ltb, Bool, true, false, eqb, eq-eqb, ne_eqb, eqb-true, sym}
+use Rattle.std.proofs.Common.{◌≡◌, ℕ, zero, suc, ◌+◌, ◌-◌, ◌*◌, ◌/◌, ◌%◌, ◌^◌, ◌<◌, ◌≤◌, refl, ap, ◌∙◌, mod-eq_of_lt, pow-suc, lt_of_not-le, zero-add, arith, pow_pos, pow_mono, pow-add, le-ltb, lt-ltb, Bool, true, false, eqb, eq-eqb, ne_eqb, eqb-true, sym}
 use borrow.Author.Tests.{eqb-false}
 use native.Mathlib.Nat.{mul-mod_right}
 use lib.Pow.{pow-lt}
@@ -96,6 +96,33 @@ one-bit n h = go (eqb (ones n) 1) refl
         let e : one.0 ≡ log₂ n = log₂-only n one.0 h (omega (arith, one.1)) (omega (arith, one.1, pow_pos one.0)) in
         sym (eq-eqb _ _ (one.1 ∙ rw e))
     go false t = sym (ne_eqb _ _ (λ e. eqb-false (ones n) 1 t (ap ones e ∙ ones-power (log₂ n))))
+
+-- ---- the loop that halves: rest is n halved k times, and left halvings would do for any number
+pub record Halved (n rest k : ℕ) : Type 0 where
+  pub left : ℕ
+  pub all : k + left ≡ 64
+  pub small : rest < 2 ^ left
+  pub log : k + halvings left rest ≡ log₂ n
+
+pub halved-start : (n : ℕ) → n < 2 ^ 64 → Halved n n 0
+unfolding log₂
+halved-start n h = record { left = 64; all = refl; small = h; log = zero-add (halvings 64 n) }
+
+halved-step : (n rest k left : ℕ) → 1 < rest → k + left ≡ 64 → rest < 2 ^ left → k + halvings left rest ≡ log₂ n
+    → Halved n (rest / 2) (k + 1)
+halved-step n rest k zero b a s l = absurd (omega arith)
+halved-step n rest k (suc left) b a s l = record {
+  left = left;
+  all = omega arith;
+  small = omega (arith, pow-suc 2 left);
+  log = omega (arith, l, halvings-more left rest b);
+}
+
+pub halved-more : (n rest k : ℕ) → Halved n rest k → 1 < rest → Halved n (rest / 2) (k + 1)
+halved-more n rest k h b = halved-step n rest k h.left b h.all h.small h.log
+
+pub halved-end : (n rest k : ℕ) → Halved n rest k → rest ≤ 1 → k ≡ log₂ n
+halved-end n rest k h s = omega (arith, h.log, halvings-end h.left rest (omega arith))
 
 pub log₂-lt : (n : ℕ) → n < 2 ^ 64 → log₂ n < 64
 log₂-lt zero h = rw log₂-zero (omega arith)

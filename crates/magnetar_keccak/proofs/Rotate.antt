@@ -19,20 +19,25 @@ rotate-mod w n = rw mod-mod
 shl-mod : (w j k : ℕ) → w * 2 ^ k % 2 ^ (j + k) ≡ w % 2 ^ j * 2 ^ k
 shl-mod w j k = mod-pow-add (w * 2 ^ k) j k ∙ rw (shl-shr, mul-mod_left, add-zero)
 
-rotate-shifts : (w n : ℕ) → w < 2 ^ 64 → n < 64 → bit_or (w * 2 ^ n % 2 ^ 64) (w / 2 ^ (64 - n)) ≡ w * 2 ^ n % 2 ^ 64 + w / 2 ^ (64 - n)
-rotate-shifts w n hw h =
+-- a rotation by two shifts: their or is their sum
+shifts-added : (w n : ℕ) → w < 2 ^ 64 → n < 64 → bit_or (w * 2 ^ n % 2 ^ 64) (w / 2 ^ (64 - n)) ≡ w * 2 ^ n % 2 ^ 64 + w / 2 ^ (64 - n)
+shifts-added w n hw h =
     let s : (64 - n) + n ≡ 64 = omega arith in
     let t : n + (64 - n) ≡ 64 = omega arith in
     let e : w * 2 ^ n % 2 ^ 64 ≡ w % 2 ^ (64 - n) * 2 ^ n = rw s at (shl-mod w (64 - n) n) in
     let l : w < 2 ^ (n + (64 - n)) = rw t hw in
     rw e (or_shifted (w % 2 ^ (64 - n)) n (w / 2 ^ (64 - n)) (shr_lt n (64 - n) l))
 
+pub rotate-shifts : (w n : ℕ) → w < 2 ^ 64 → n < 64 → bit_or (w * 2 ^ n % 2 ^ 64) (w / 2 ^ (64 - n)) ≡ rotate w n
+unfolding rotate
+rotate-shifts w n hw h = rw (mod-eq_of_lt h) (shifts-added w n hw h)
+
 -- a shift down by 64 - n; where n is 0, std shifts by 0 and takes the or of the word and itself
 below : (w k n : ℕ) → w < 2 ^ 64 → n < 64 → n ≡ k → bit_or (w * 2 ^ n % 2 ^ 64) (w / 2 ^ ((64 - n) % 64)) ≡ w * 2 ^ n % 2 ^ 64 + w / 2 ^ (64 - n)
 below w zero n hw h e = rw (e, mul-one, mod-eq_of_lt hw, div-one, div-eq_of_lt hw, or_self) (sym (add-zero w))
 below w (suc k) n hw h e =
     let m : (64 - n) % 64 ≡ 64 - n = mod-eq_of_lt (omega arith) in
-    rw m (rotate-shifts w n hw h)
+    rw m (shifts-added w n hw h)
 
 pub rotated : (w n : ℕ) → w < 2 ^ 64 → rotate_left w64 w n ≡ rotate w n
 unfolding rotate

@@ -3,11 +3,12 @@
 -- Assumes nothing.
 use mathlib.Core.Path.{◌≡◌, refl, ap, ◌∙◌}
 use mathlib.Core.List.{List, [], ◌∷◌, map}
-use Prim.Native.Nat.{ℕ, zero, suc, ◌+◌, ◌-◌, ◌<◌, min}
+use Prim.Native.Nat.{ℕ, zero, suc, ◌+◌, ◌-◌, ◌≤◌, ◌<◌, min}
 use native.Mathlib.Nat.{le_of_suc-le-suc}
 use native.Mathlib.Numerals.{add-one}
 use native.Mathlib.Omega.{arith}
-use lib.ListN.{length, get_or, take, drop, length-drop}
+use lib.ListN.{length, get_or, take, drop, length-drop, drop_of_length-le}
+use lib.Seq.{drop-cons}
 use Rattle.std.proofs.lemmas.List.{length-take, get_or-take, get_or-drop}
 use Rattle.magnetar_matrix.specs.Matrix as matrix
 use Rattle.magnetar_matrix.specs.Lent.{entry, entries_of}
@@ -132,5 +133,17 @@ map-length f (e ∷ es) = ap suc (map-length f es)
 pub records-length : (es : List Entry) → length (entries_by (record_numbers es)) ≡ length es
 records-length es = ap length (records_are es) ∙ map-length entry_of es
 
--- how many entries each form has
+-- ---- a loop over a slice of records: what is left of it at the record i, and behind the last one
+-- what is read past the end
+abbrev pub no_record : Entry
+no_record = record { row = 0; col = 0; lo = 0; hi = 0 }
+
+pub left_more : (es : List Entry) (i : ℕ) → i < length es
+    → map entry_of (drop i es) ≡ entry_of (get_or es i no_record) ∷ map entry_of (drop (i + 1) es)
+left_more es i h = rw add-one (ap (map entry_of) (drop-cons es i no_record h))
+
+pub left_none : (es : List Entry) (i : ℕ) → length es ≤ i → map entry_of (drop i es) ≡ []
+left_none es i h = ap (map entry_of) (drop_of_length-le es {i = i} h)
+
+-- ---- how many entries each form has
 pub ruleset lengths = (entries-length, exchanged-length, part-length, records-length)

@@ -59,7 +59,7 @@ inner-summed : (v n : ℕ) (t z : List ℕ) → summed v (inner_summand t z) n �
 unfolding summed inner_summand inner_sums_at slope at₀ at₁
 inner-summed v n t z = refl
 
-outer-message-is : (v k t n : ℕ) (e a b c : List ℕ) (s : Sums) → n ≡ length e → sums s ≡ outer_sums v e a b c n
+pub outer-message-is : (v k t n : ℕ) (e a b c : List ℕ) (s : Sums) → n ≡ length e → sums s ≡ outer_sums v e a b c n
     → times_eq k t (value s.zero) (value s.zero ⊕ value s.one ⊕ value s.top) (value s.top) ≡ outer_message v k t e a b c
 unfolding sums outer_sums outer_message
 outer-message-is v k t n e a b c s l h = go
@@ -84,7 +84,7 @@ outer-message-is v k t n e a b c s l h = go
 inner-middle : (t₀ t₁ z₀ z₁ : ℕ) → t₀ ⊗ (z₀ ⊕ z₁) ⊕ (t₀ ⊕ t₁) ⊗ z₀ ≡ t₀ ⊗ z₀ ⊕ t₁ ⊗ z₁ ⊕ (t₀ ⊕ t₁) ⊗ (z₀ ⊕ z₁)
 inner-middle t₀ t₁ z₀ z₁ = simp (xor, ⊗-⊕, ⊕-⊗)
 
-inner-message-is : (v n : ℕ) (t z : List ℕ) (s : Sums) → n ≡ length t / 2 → sums s ≡ inner_sums_at v t z n
+pub inner-message-is : (v n : ℕ) (t z : List ℕ) (s : Sums) → n ≡ length t / 2 → sums s ≡ inner_sums_at v t z n
     → ◌≡◌ {A = List ℕ} (value s.zero ∷ (value s.zero ⊕ value s.one ⊕ value s.top) ∷ value s.top ∷ []) (inner_message v t z)
 unfolding sums inner_sums_at inner_message inner_sums
 inner-message-is v n t z s l h = go (length t / 2) l
