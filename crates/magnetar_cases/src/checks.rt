@@ -1,6 +1,7 @@
 // The verifier's checks with given elements in the place of the draws.
 use crate::case::Case;
-use crate::matrices::{MOST_SCRATCH, thirty_two, twelve};
+use crate::matrices::{thirty_two, twelve};
+use crate::room::{Room, Rooms};
 use crate::runs::MOST_CLAIMS;
 use magnetar_batch::{eval, fold};
 use magnetar_field::gf128::Gf128;
@@ -100,9 +101,15 @@ fn print_found(out: &mut Out, found: Result<(), Failure>) -> io::Result<()> {
 }
 
 // checks C S PROOF DRAWS ALPHAS PB PF: the checks one after the other, and the claims.
-fn checks(alloc: Global, out: &mut Out, nums: &[u64], case: &Case) -> io::Result<()> {
+fn checks(
+    alloc: Global,
+    out: &mut Out,
+    nums: &[u64],
+    case: &Case,
+    room: &mut Room,
+) -> io::Result<()> {
     let mut claims = line::marked(alloc, line::size(nums, 0).min(MOST_CLAIMS))?;
-    let mut scratch = line::marked(alloc, line::size(nums, 1).min(MOST_SCRATCH))?;
+    let scratch = room.marked(line::size(nums, 1))?;
     let proof = line::list_from(nums, 2, 0);
     let draws = line::list_from(nums, 2, 1);
     let rb = case.shapes.bin.a.rows;
@@ -113,15 +120,15 @@ fn checks(alloc: Global, out: &mut Out, nums: &[u64], case: &Case) -> io::Result
     if found.is_err() {
         return Ok(());
     }
-    let v = table_value(nums, draws, case, scratch.as_mut_slice());
-    let p = half_value(proof, draws, case, scratch.as_mut_slice());
+    let v = table_value(nums, draws, case, scratch);
+    let p = half_value(proof, draws, case, scratch);
     let found = end::end_checks(case.m, case.q, rb, rf, lens, proof, draws, v, p);
     print_found(out, found)?;
     if found.is_ok() {
         let answer = claimed(proof, draws, case, claims.as_mut_slice());
         show::written(out, answer, claims.as_slice())?;
     }
-    let scratch = Cleared(scratch.as_slice());
+    let scratch = Cleared(scratch);
     writeln!(out, "= {scratch}")
 }
 
@@ -132,10 +139,11 @@ pub(crate) fn answer(
     name: &[u8],
     nums: &[u64],
     case: &Case,
+    rooms: &mut Rooms,
 ) -> io::Result<bool> {
     if name != b"checks".as_slice() {
         return Ok(false);
     }
-    checks(alloc, out, nums, case)?;
+    checks(alloc, out, nums, case, &mut rooms.slices)?;
     Ok(true)
 }

@@ -6,9 +6,11 @@
 mod case;
 mod checks;
 mod matrices;
+mod room;
 mod runs;
 
 use crate::case::Case;
+use crate::room::Rooms;
 use magnetar_replay::show::Out;
 use magnetar_replay::{line, replay};
 use std::alloc::Global;
@@ -22,7 +24,13 @@ const MOST_INPUT: usize = 2097152;
 const MOST: usize = 1024;
 
 // Answers the query of a line on the last relation, or says that it is none.
-fn answer(alloc: Global, out: &mut Out, text: &[u8], case: &mut Case) -> io::Result<bool> {
+fn answer(
+    alloc: Global,
+    out: &mut Out,
+    text: &[u8],
+    case: &mut Case,
+    rooms: &mut Rooms,
+) -> io::Result<bool> {
     let nums = line::numbers(alloc, text)?;
     if line::name(text) == b"case".as_slice() {
         if nums.len() > case::MOST {
@@ -37,13 +45,13 @@ fn answer(alloc: Global, out: &mut Out, text: &[u8], case: &mut Case) -> io::Res
     }
     let name = line::name(text);
     let nums = nums.as_slice();
-    if matrices::answer(alloc, out, name, nums, case)? {
+    if matrices::answer(alloc, out, name, nums, case, rooms)? {
         return Ok(true);
     }
-    if checks::answer(alloc, out, name, nums, case)? {
+    if checks::answer(alloc, out, name, nums, case, rooms)? {
         return Ok(true);
     }
-    runs::answer(alloc, out, name, line::hash(text), nums, case)
+    runs::answer(alloc, out, name, line::hash(text), nums, case, rooms)
 }
 
 fn main(rt: HostRuntime) -> io::Result<()> {
@@ -51,8 +59,9 @@ fn main(rt: HostRuntime) -> io::Result<()> {
     let mut out = BufWriter::new(alloc, rt.stdout())?;
     let input = replay::read(alloc, rt.reader(), MOST_INPUT)?;
     let mut case = Case::new(alloc, Vec::new(alloc))?;
+    let mut rooms = Rooms::new(alloc);
     replay::replay(&mut out, input.as_slice(), MOST_INPUT, |out, text| {
-        answer(alloc, out, text, &mut case)
+        answer(alloc, out, text, &mut case, &mut rooms)
     })?;
     out.flush()
 }

@@ -1,5 +1,6 @@
 // Queries on matrices: the combined table of six, its value at a point, the masks of one, the row check and the digest.
 use crate::case::{Case, compare};
+use crate::room::{Room, Rooms};
 use magnetar_batch::{combo, eval};
 use magnetar_check::check;
 use magnetar_check::check::RowCheck;
@@ -15,17 +16,15 @@ use std::alloc::{AllocError, Global};
 use std::io;
 use std::io::Write;
 
-// How many words are lent at most: for a table or masks, and as scratch.
+// How many words are lent at most for a table or masks.
 pub(crate) const MOST_WORDS: usize = 2048;
-
-pub(crate) const MOST_SCRATCH: usize = 90136;
 
 // What a call answered, and the words that it was lent.
 #[derive(PartialEq, Drop)]
-struct Told<A> {
+struct Told<'a, A> {
     answer: Result<A, Refusal>,
     words: Vec<u64>,
-    scratch: Vec<u64>,
+    scratch: &'a [u64],
 }
 
 // Twelve words of a list, 0 where it has fewer.
@@ -43,17 +42,18 @@ pub(crate) fn thirty_two(s: &[u64]) -> [u64; 32] {
 }
 
 // combo N S ALPHAS PB PF: the combined table of the relation, with N words lent for it and S as scratch.
-fn combo_over<E: Entries>(
+fn combo_over<'a, E: Entries>(
     alloc: Global,
+    room: &'a mut Room,
     nums: &[u64],
     case: &Case,
     es: &E,
-) -> Result<Told<()>, AllocError> {
+) -> Result<Told<'a, ()>, AllocError> {
     let mut words = line::marked(alloc, line::size(nums, 0).min(MOST_WORDS))?;
-    let mut scratch = line::marked(alloc, line::size(nums, 1).min(MOST_SCRATCH))?;
+    let scratch = room.marked(line::size(nums, 1))?;
     let answer = combo::build_m_combo(
         words.as_mut_slice(),
-        scratch.as_mut_slice(),
+        scratch,
         case.m,
         case.shapes,
         es,
@@ -68,28 +68,45 @@ fn combo_over<E: Entries>(
     })
 }
 
-fn combo(alloc: Global, out: &mut Out, nums: &[u64], case: &Case) -> io::Result<()> {
-    let told = combo_over(alloc, nums, case, &case.slices())?;
-    let again = match case.records() {
-        Some(es) => Some(combo_over(alloc, nums, case, &es)?),
-        None => None,
-    };
+// The same over records, where the entries can be lent so.
+fn combo_again<'a>(
+    alloc: Global,
+    room: &'a mut Room,
+    nums: &[u64],
+    case: &Case,
+) -> Result<Option<Told<'a, ()>>, AllocError> {
+    match case.records() {
+        Some(es) => Ok(Some(combo_over(alloc, room, nums, case, &es)?)),
+        None => Ok(None),
+    }
+}
+
+fn combo(
+    alloc: Global,
+    out: &mut Out,
+    nums: &[u64],
+    case: &Case,
+    rooms: &mut Rooms,
+) -> io::Result<()> {
+    let told = combo_over(alloc, &mut rooms.slices, nums, case, &case.slices())?;
+    let again = combo_again(alloc, &mut rooms.records, nums, case)?;
     compare(out, &told, &again)?;
     show::written(out, told.answer, told.words.as_slice())?;
-    let scratch = Cleared(told.scratch.as_slice());
+    let scratch = Cleared(told.scratch);
     writeln!(out, "= {scratch}")
 }
 
 // value S ALPHAS PB PF C: the combined table of the relation at the column point C, with S words lent as scratch.
-fn value_over<E: Entries>(
+fn value_over<'a, E: Entries>(
     alloc: Global,
+    room: &'a mut Room,
     nums: &[u64],
     case: &Case,
     es: &E,
-) -> Result<Told<Gf128>, AllocError> {
-    let mut scratch = line::marked(alloc, line::size(nums, 0).min(MOST_SCRATCH))?;
+) -> Result<Told<'a, Gf128>, AllocError> {
+    let scratch = room.marked(line::size(nums, 0))?;
     let answer = eval::eval_m_combo(
-        scratch.as_mut_slice(),
+        scratch,
         case.m,
         case.shapes,
         twelve(line::list_from(nums, 1, 0)),
@@ -105,16 +122,32 @@ fn value_over<E: Entries>(
     })
 }
 
-fn value(alloc: Global, out: &mut Out, nums: &[u64], case: &Case) -> io::Result<()> {
-    let told = value_over(alloc, nums, case, &case.slices())?;
-    let again = match case.records() {
-        Some(es) => Some(value_over(alloc, nums, case, &es)?),
-        None => None,
-    };
+// The same over records, where the entries can be lent so.
+fn value_again<'a>(
+    alloc: Global,
+    room: &'a mut Room,
+    nums: &[u64],
+    case: &Case,
+) -> Result<Option<Told<'a, Gf128>>, AllocError> {
+    match case.records() {
+        Some(es) => Ok(Some(value_over(alloc, room, nums, case, &es)?)),
+        None => Ok(None),
+    }
+}
+
+fn value(
+    alloc: Global,
+    out: &mut Out,
+    nums: &[u64],
+    case: &Case,
+    rooms: &mut Rooms,
+) -> io::Result<()> {
+    let told = value_over(alloc, &mut rooms.slices, nums, case, &case.slices())?;
+    let again = value_again(alloc, &mut rooms.records, nums, case)?;
     compare(out, &told, &again)?;
     let e = told.answer.unwrap_or(magnetar_field::gf128::ZERO);
     show::written(out, told.answer, &[e.lo, e.hi])?;
-    let scratch = Cleared(told.scratch.as_slice());
+    let scratch = Cleared(told.scratch);
     writeln!(out, "= {scratch}")
 }
 
@@ -124,7 +157,7 @@ fn masks_over<E: Entries>(
     nums: &[u64],
     case: &Case,
     es: &E,
-) -> Result<Told<()>, AllocError> {
+) -> Result<Told<'static, ()>, AllocError> {
     let mut words = line::marked(alloc, line::size(nums, 0).min(MOST_WORDS))?;
     let a = case.shapes.bin.a;
     let answer = r1cs::apply_simd_bit_masks(
@@ -140,7 +173,7 @@ fn masks_over<E: Entries>(
     Ok(Told {
         answer,
         words,
-        scratch: Vec::new(alloc),
+        scratch: &[],
     })
 }
 
@@ -172,15 +205,16 @@ fn masks(alloc: Global, out: &mut Out, nums: &[u64], case: &Case) -> io::Result<
 }
 
 // check S: the row check with S words lent as scratch.
-fn check_over<E: Entries>(
+fn check_over<'a, E: Entries>(
     alloc: Global,
+    room: &'a mut Room,
     nums: &[u64],
     case: &Case,
     es: &E,
-) -> Result<Told<RowCheck>, AllocError> {
-    let mut scratch = line::marked(alloc, line::size(nums, 0).min(MOST_SCRATCH))?;
+) -> Result<Told<'a, RowCheck>, AllocError> {
+    let scratch = room.marked(line::size(nums, 0))?;
     let answer = check::row_check(
-        scratch.as_mut_slice(),
+        scratch,
         case.m,
         case.q,
         case.lens.as_slice(),
@@ -196,12 +230,28 @@ fn check_over<E: Entries>(
     })
 }
 
-fn row_check(alloc: Global, out: &mut Out, nums: &[u64], case: &Case) -> io::Result<()> {
-    let told = check_over(alloc, nums, case, &case.slices())?;
-    let again = match case.records() {
-        Some(es) => Some(check_over(alloc, nums, case, &es)?),
-        None => None,
-    };
+// The same over records, where the entries can be lent so.
+fn check_again<'a>(
+    alloc: Global,
+    room: &'a mut Room,
+    nums: &[u64],
+    case: &Case,
+) -> Result<Option<Told<'a, RowCheck>>, AllocError> {
+    match case.records() {
+        Some(es) => Ok(Some(check_over(alloc, room, nums, case, &es)?)),
+        None => Ok(None),
+    }
+}
+
+fn row_check(
+    alloc: Global,
+    out: &mut Out,
+    nums: &[u64],
+    case: &Case,
+    rooms: &mut Rooms,
+) -> io::Result<()> {
+    let told = check_over(alloc, &mut rooms.slices, nums, case, &case.slices())?;
+    let again = check_again(alloc, &mut rooms.records, nums, case)?;
     compare(out, &told, &again)?;
     match told.answer {
         Ok(RowCheck::Good) => writeln!(out, "= good")?,
@@ -213,7 +263,7 @@ fn row_check(alloc: Global, out: &mut Out, nums: &[u64], case: &Case) -> io::Res
             writeln!(out, "! {number}")?;
         }
     }
-    let scratch = Cleared(told.scratch.as_slice());
+    let scratch = Cleared(told.scratch);
     writeln!(out, "= {scratch}")
 }
 
@@ -248,12 +298,13 @@ pub(crate) fn answer(
     name: &[u8],
     nums: &[u64],
     case: &Case,
+    rooms: &mut Rooms,
 ) -> io::Result<bool> {
     match name {
-        b"combo" => combo(alloc, out, nums, case)?,
-        b"value" => value(alloc, out, nums, case)?,
+        b"combo" => combo(alloc, out, nums, case, rooms)?,
+        b"value" => value(alloc, out, nums, case, rooms)?,
         b"masks" => masks(alloc, out, nums, case)?,
-        b"check" => row_check(alloc, out, nums, case)?,
+        b"check" => row_check(alloc, out, nums, case, rooms)?,
         b"digest" => relation_digest(out, case)?,
         _ => return Ok(false),
     }

@@ -1,10 +1,10 @@
 // Whole runs: the prover and the verifier on a relation and its batch, over slices with the transcript by value, and over records with the
 // transcript in place.
 use crate::case::{Case, compare};
-use crate::matrices::{MOST_SCRATCH, MOST_WORDS};
+use crate::matrices::MOST_WORDS;
+use crate::room::{Room, Rooms};
 use magnetar_field::refusal::Refusal;
 use magnetar_hash::transcript::Transcript;
-use magnetar_matrix::entries::Records;
 use magnetar_replay::line;
 use magnetar_replay::show::{Cleared, Out, State, Words};
 use magnetar_spartan::{in_place, virtual_spartan};
@@ -17,16 +17,16 @@ pub(crate) const MOST_CLAIMS: usize = 256;
 
 // What a run answered, its transcript and all words that it was lent.
 #[derive(PartialEq, Drop)]
-struct Run {
+struct Run<'a> {
     outcome: Result<(), Refusal>,
     transcript: Transcript,
     proof: Vec<u64>,
     claims: Vec<u64>,
-    scratch: Vec<u64>,
+    scratch: &'a [u64],
 }
 
 // The transcript after a call, after the number of the refusal where there is one.
-fn print_answer(out: &mut Out, run: &Run) -> io::Result<()> {
+fn print_answer(out: &mut Out, run: &Run<'_>) -> io::Result<()> {
     let state = State(run.transcript);
     match run.outcome {
         Ok(()) => writeln!(out, "= {state}"),
@@ -38,19 +38,20 @@ fn print_answer(out: &mut Out, run: &Run) -> io::Result<()> {
 }
 
 // The prover by value, with P words lent for the proof, C for the claims and S as scratch.
-fn prove_slices(
+fn prove_slices<'a>(
     alloc: Global,
+    room: &'a mut Room,
     nums: &[u64],
     case: &Case,
     t: Transcript,
-) -> Result<Run, AllocError> {
+) -> Result<Run<'a>, AllocError> {
     let mut proof = line::marked(alloc, line::size(nums, 2).min(MOST_WORDS))?;
     let mut claims = line::marked(alloc, line::size(nums, 3).min(MOST_CLAIMS))?;
-    let mut scratch = line::marked(alloc, line::size(nums, 4).min(MOST_SCRATCH))?;
+    let scratch = room.marked(line::size(nums, 4))?;
     let answer = virtual_spartan::prove_virtual_spartan(
         proof.as_mut_slice(),
         claims.as_mut_slice(),
-        scratch.as_mut_slice(),
+        scratch,
         case.m,
         case.q,
         case.lens.as_slice(),
@@ -69,23 +70,26 @@ fn prove_slices(
     })
 }
 
-// The same in place, over records.
-fn prove_records(
+// The same in place, over records, where the entries can be lent so.
+fn prove_records<'a>(
     alloc: Global,
+    room: &'a mut Room,
     nums: &[u64],
     case: &Case,
-    es: Records<'_>,
     t: Transcript,
-) -> Result<Run, AllocError> {
+) -> Result<Option<Run<'a>>, AllocError> {
+    let Some(es) = case.records() else {
+        return Ok(None);
+    };
     let mut transcript = t;
     let mut proof = line::marked(alloc, line::size(nums, 2).min(MOST_WORDS))?;
     let mut claims = line::marked(alloc, line::size(nums, 3).min(MOST_CLAIMS))?;
-    let mut scratch = line::marked(alloc, line::size(nums, 4).min(MOST_SCRATCH))?;
+    let scratch = room.marked(line::size(nums, 4))?;
     let outcome = in_place::prove_virtual_spartan(
         &mut transcript,
         proof.as_mut_slice(),
         claims.as_mut_slice(),
-        scratch.as_mut_slice(),
+        scratch,
         case.m,
         case.q,
         case.lens.as_slice(),
@@ -94,44 +98,49 @@ fn prove_records(
         case.packed.as_slice(),
         case.x.as_slice(),
     );
-    Ok(Run {
+    Ok(Some(Run {
         outcome,
         transcript,
         proof,
         claims,
         scratch,
-    })
+    }))
 }
 
 // prove STATE CTR P C S
-fn prove(alloc: Global, out: &mut Out, nums: &[u64], case: &Case, t: Transcript) -> io::Result<()> {
-    let run = prove_slices(alloc, nums, case, t)?;
-    let again = match case.records() {
-        Some(es) => Some(prove_records(alloc, nums, case, es, t)?),
-        None => None,
-    };
+fn prove(
+    alloc: Global,
+    out: &mut Out,
+    nums: &[u64],
+    case: &Case,
+    rooms: &mut Rooms,
+    t: Transcript,
+) -> io::Result<()> {
+    let run = prove_slices(alloc, &mut rooms.slices, nums, case, t)?;
+    let again = prove_records(alloc, &mut rooms.records, nums, case, t)?;
     compare(out, &run, &again)?;
     print_answer(out, &run)?;
     let proof = Words(run.proof.as_slice());
     let claims = Words(run.claims.as_slice());
-    let scratch = Cleared(run.scratch.as_slice());
+    let scratch = Cleared(run.scratch);
     writeln!(out, "= {proof}\n= {claims}\n= {scratch}")
 }
 
 // The verifier by value, with c words lent for the claims and s as scratch.
-fn verify_slices(
+fn verify_slices<'a>(
     alloc: Global,
+    room: &'a mut Room,
     c: usize,
     s: usize,
     case: &Case,
     proof: &[u64],
     t: Transcript,
-) -> Result<Run, AllocError> {
+) -> Result<Run<'a>, AllocError> {
     let mut claims = line::marked(alloc, c.min(MOST_CLAIMS))?;
-    let mut scratch = line::marked(alloc, s.min(MOST_SCRATCH))?;
+    let scratch = room.marked(s)?;
     let verified = virtual_spartan::verify_virtual_spartan(
         claims.as_mut_slice(),
-        scratch.as_mut_slice(),
+        scratch,
         case.m,
         case.q,
         case.lens.as_slice(),
@@ -150,23 +159,26 @@ fn verify_slices(
     })
 }
 
-// The same in place, over records.
-fn verify_records(
+// The same in place, over records, where the entries can be lent so.
+fn verify_records<'a>(
     alloc: Global,
+    room: &'a mut Room,
     c: usize,
     s: usize,
     case: &Case,
-    es: Records<'_>,
     proof: &[u64],
     t: Transcript,
-) -> Result<Run, AllocError> {
+) -> Result<Option<Run<'a>>, AllocError> {
+    let Some(es) = case.records() else {
+        return Ok(None);
+    };
     let mut transcript = t;
     let mut claims = line::marked(alloc, c.min(MOST_CLAIMS))?;
-    let mut scratch = line::marked(alloc, s.min(MOST_SCRATCH))?;
+    let scratch = room.marked(s)?;
     let outcome = in_place::verify_virtual_spartan(
         &mut transcript,
         claims.as_mut_slice(),
-        scratch.as_mut_slice(),
+        scratch,
         case.m,
         case.q,
         case.lens.as_slice(),
@@ -175,13 +187,13 @@ fn verify_records(
         case.x.as_slice(),
         proof,
     );
-    Ok(Run {
+    Ok(Some(Run {
         outcome,
         transcript,
         proof: Vec::new(alloc),
         claims,
         scratch,
-    })
+    }))
 }
 
 fn verify(
@@ -190,18 +202,16 @@ fn verify(
     c: usize,
     s: usize,
     case: &Case,
+    rooms: &mut Rooms,
     proof: &[u64],
     t: Transcript,
 ) -> io::Result<()> {
-    let run = verify_slices(alloc, c, s, case, proof, t)?;
-    let again = match case.records() {
-        Some(es) => Some(verify_records(alloc, c, s, case, es, proof, t)?),
-        None => None,
-    };
+    let run = verify_slices(alloc, &mut rooms.slices, c, s, case, proof, t)?;
+    let again = verify_records(alloc, &mut rooms.records, c, s, case, proof, t)?;
     compare(out, &run, &again)?;
     print_answer(out, &run)?;
     let claims = Words(run.claims.as_slice());
-    let scratch = Cleared(run.scratch.as_slice());
+    let scratch = Cleared(run.scratch);
     writeln!(out, "= {claims}\n= {scratch}")
 }
 
@@ -213,13 +223,14 @@ pub(crate) fn answer(
     state: [u8; 32],
     nums: &[u64],
     case: &Case,
+    rooms: &mut Rooms,
 ) -> io::Result<bool> {
     let t = Transcript {
         state,
         squeeze_ctr: line::at(nums, 1),
     };
     match name {
-        b"prove" => prove(alloc, out, nums, case, t)?,
+        b"prove" => prove(alloc, out, nums, case, rooms, t)?,
         // verify STATE CTR C S PROOF
         b"verify" => {
             let proof = line::list_from(nums, 4, 0);
@@ -229,6 +240,7 @@ pub(crate) fn answer(
                 line::size(nums, 2),
                 line::size(nums, 3),
                 case,
+                rooms,
                 proof,
                 t,
             )?;
@@ -237,7 +249,8 @@ pub(crate) fn answer(
         b"rooms" => {
             let proof = line::list_from(nums, 3, 0);
             for s in line::list_from(nums, 3, 1).iter().take(8) {
-                verify(alloc, out, line::size(nums, 2), *s as usize, case, proof, t)?;
+                let c = line::size(nums, 2);
+                verify(alloc, out, c, *s as usize, case, rooms, proof, t)?;
             }
         }
         _ => return Ok(false),
