@@ -10,11 +10,10 @@ mod wrong;
 
 use crate::opened::Claims;
 use crate::rules::{Rules, Sent};
-use crate::said::{Answer, Front, Out, Verdict};
+use crate::said::{Answer, Front, Out, Verdict, refused};
 use crate::vault::{Batch, LOGINS};
-use anyhow::Result;
 use magnetar_hash::transcript;
-use std::io::{BufWriter, Write};
+use std::io::{BufWriter, Result, Write};
 
 // What the vault holds.
 fn print_vault(out: &mut Out) -> Result<()> {
@@ -71,7 +70,7 @@ fn print_rules(out: &mut Out) -> Result<()> {
 // What both ends bind before the run.
 fn print_bound(out: &mut Out, rules: &Rules, batch: &Batch) -> Result<()> {
     let committed = batch.commitment()?;
-    let digest = rules.digest()?;
+    let digest = rules.digest().map_err(refused)?;
     let bits = Front(committed);
     writeln!(
         out,

@@ -2,12 +2,12 @@
 // segment of the logins, folded at r_inst, at the front of r_low. The claims are r_inst, 2 elements, r_low, 5, and a value for each segment.
 use crate::rules;
 use crate::vault::Batch;
-use anyhow::Result;
 use magnetar_batch::fold;
 use magnetar_field::words;
 use magnetar_layout::layout;
 use magnetar_multilinear::multilinear;
 use std::fmt;
+use std::io::Result;
 
 // What the claims say of the bits of a commitment.
 #[derive(Clone, Copy)]

@@ -10,6 +10,7 @@
 //                1        (f0 + f1 x + f2 x^2 + f3 x^3) * 1 = folder
 //                2        (e0 + e1 x) * 1 = edition
 //                3        empty
+use crate::said::refused;
 use crate::vault::Batch;
 use magnetar_check::check;
 use magnetar_check::check::RowCheck;
@@ -21,6 +22,7 @@ use magnetar_matrix::entries::{Entry, Records};
 use magnetar_relation::shapes::{Shape, Shapes, SystemShape};
 use magnetar_spartan::virtual_spartan;
 use std::alloc::{AllocError, Global};
+use std::io;
 
 const M: usize = 64;
 
@@ -194,17 +196,17 @@ impl Rules {
 
     // The transcript that both ends start with, bound to the rules, to the commitment and to the public words before anything is drawn
     // from it.
-    pub(crate) fn start(&self, batch: &Batch) -> anyhow::Result<Transcript> {
+    pub(crate) fn start(&self, batch: &Batch) -> io::Result<Transcript> {
         self.start_with(batch.commitment()?, batch.public())
     }
 
     // The same with a commitment and public words.
-    pub(crate) fn start_with(&self, committed: [u8; 32], x: &[u64]) -> anyhow::Result<Transcript> {
+    pub(crate) fn start_with(&self, committed: [u8; 32], x: &[u64]) -> io::Result<Transcript> {
         let mut parts = Vec::new(self.alloc);
-        parts.extend_from_slice(&self.digest()?)?;
+        parts.extend_from_slice(&self.digest().map_err(refused)?)?;
         parts.extend_from_slice(&committed)?;
-        let t = transcript::new(b"vault", parts.as_slice(), &[32, 32])?;
-        Ok(transcript::absorb_field(t, b"public words", x)?)
+        let t = transcript::new(b"vault", parts.as_slice(), &[32, 32]).map_err(refused)?;
+        transcript::absorb_field(t, b"public words", x).map_err(refused)
     }
 
     // The first stray bit, or the first row that fails.

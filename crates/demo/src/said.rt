@@ -1,11 +1,16 @@
 // What is said about an answer.
 use magnetar_check::check::RowCheck;
 use magnetar_field::refusal::Refusal;
-use std::fmt;
 use std::io::{BufWriter, Stdout};
+use std::{fmt, io};
 
 // Standard output, written to in large pieces.
 pub(crate) type Out = BufWriter<Stdout>;
+
+// A refusal where there is nothing to say about one: on what the vault lends, none comes there.
+pub(crate) fn refused(_refusal: Refusal) -> io::Error {
+    io::Error::other("a call on the vault's own words is refused")
+}
 
 // What an end answered: the number of a refusal and its words, or what is said where nothing is refused.
 #[derive(Clone, Copy)]

@@ -2,11 +2,12 @@
 // key edition, 12 to 15 the folder. Columns 16 to 22 help the rule on empty secrets: 16 to 19 say that two of the secret's bits are both
 // 0, 20 and 21 that four are, 22 that all are.
 use crate::rules;
-use anyhow::Result;
+use crate::said::refused;
 use magnetar_field::gf128::Gf128;
 use magnetar_field::{gf128, words};
 use magnetar_hash::transcript;
 use std::fmt;
+use std::io::Result;
 
 // A secret of 8 bits, whether it is saved, an edition of 2 bits and a folder of 4.
 #[derive(Clone, Copy)]
@@ -130,8 +131,8 @@ impl Batch {
 
     // The commitment to the bits. A hash of the packed words stands in for it: a commitment scheme is not part of this repository.
     pub(crate) fn commitment(&self) -> Result<[u8; 32]> {
-        let t = transcript::new(b"vault bits", b"", &[])?;
-        let t = transcript::absorb_field(t, b"bits", &self.packed)?;
+        let t = transcript::new(b"vault bits", b"", &[]).map_err(refused)?;
+        let t = transcript::absorb_field(t, b"bits", &self.packed).map_err(refused)?;
         Ok(transcript::state_digest(t))
     }
 

@@ -2,13 +2,12 @@
 // bits between two segments, a size.
 use crate::opened::Claims;
 use crate::rules::{Rules, Sent};
-use crate::said::{Answer, Out, Verdict};
+use crate::said::{Answer, Out, Verdict, refused};
 use crate::vault::{Batch, LOGINS, Login};
 use crate::{opened, rules};
-use anyhow::Result;
 use magnetar_hash::transcript;
 use magnetar_hash::transcript::Transcript;
-use std::io::Write;
+use std::io::{Result, Write};
 
 // What the laptop says about a proof of q logins.
 fn verified(rules: &Rules, q: usize, x: &[u64], proof: &[u64], t: Transcript) -> Result<Answer> {
@@ -60,7 +59,7 @@ fn exchange(out: &mut Out, rules: &Rules, batch: &Batch, sent: &Sent) -> Result<
         "login 0 is given edition 3 after the proof is made, and an unused public column with which the proof still fits"
     )?;
     // Both ends start with a transcript that is bound to nothing: none should.
-    let unbound = transcript::new(b"vault", b"", &[])?;
+    let unbound = transcript::new(b"vault", b"", &[]).map_err(refused)?;
     let free = rules.prove(4, batch, unbound)?;
     let other = batch.exchanged(free.claims.as_slice());
     let verdict = Verdict(rules.row_check(&other));
