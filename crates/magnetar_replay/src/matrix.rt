@@ -1,5 +1,8 @@
 // The functions of a matrix, over its entries in any form: OP LENT SCRATCH ROWS COLS ROW COL LO HI X Y, with as many words lent as LENT and
 // SCRATCH say.
+ghost use Rattle.std.specs.Prelude.{◌≡◌, IfOk};
+ghost use Rattle.magnetar_replay.specs.Functions as functions;
+
 use crate::show::{Element, Out, Words};
 use crate::{line, show};
 use magnetar_field::gf128::Gf128;
@@ -55,7 +58,9 @@ pub struct Places {
 
 impl Places {
     // Rows of which there are more than `most` are left out, and so are columns.
-    pub fn new(alloc: Global, nums: &[u64], most: usize) -> Result<Places, AllocError> {
+    pub fn new(alloc: Global, nums: &[u64], most: usize) -> Result<Places, AllocError>
+        ensures { IfOk result (λ p. (p.row.items ≡ functions.rows_asked nums.now most) × (p.col.items ≡ functions.cols_asked nums.now most)) }
+    {
         Ok(Places {
             row: line::sizes_within(alloc, line::list_from(nums, 4, 0), most)?,
             col: line::sizes_within(alloc, line::list_from(nums, 4, 1), most)?,
@@ -63,7 +68,10 @@ impl Places {
     }
 
     // The entries of the query, as four slices.
-    pub fn slices<'a>(&'a self, nums: &'a [u64]) -> Slices<'a> {
+    pub fn slices<'a>(&'a self, nums: &'a [u64]) -> Slices<'a>
+        ensures { record { row = result.row.now; col = result.col.now; lo = result.lo.now; hi = result.hi.now }
+            ≡ functions.entries_asked self.now.row.items self.now.col.items nums.now }
+    {
         Slices {
             row: self.row.as_slice(),
             col: self.col.as_slice(),
@@ -75,14 +83,22 @@ impl Places {
 
 impl Function {
     // The function of a query; nothing where it asks for none.
-    pub fn named(name: &[u8]) -> Option<Function> {
-        match name {
-            b"isbinary" => Some(Function::IsBinary),
-            b"apply" => Some(Function::Apply),
-            b"packed" => Some(Function::Packed),
-            b"table" => Some(Function::Table),
-            b"at" => Some(Function::At),
-            _ => None,
+    #[tactic(auto, unfolding(crate::specs::Functions::function_named))]
+    pub fn named(name: &[u8]) -> Option<Function>
+        ensures { result ≡ functions.function_named name.now }
+    {
+        if line::is(name, b"isbinary") {
+            Some(Function::IsBinary)
+        } else if line::is(name, b"apply") {
+            Some(Function::Apply)
+        } else if line::is(name, b"packed") {
+            Some(Function::Packed)
+        } else if line::is(name, b"table") {
+            Some(Function::Table)
+        } else if line::is(name, b"at") {
+            Some(Function::At)
+        } else {
+            None
         }
     }
 

@@ -1,4 +1,7 @@
 // How answers are written.
+ghost use Rattle.std.specs.Prelude.{◌≡◌};
+ghost use Rattle.magnetar_field.specs.Number.{number_of};
+
 use magnetar_field::gf128::Gf128;
 use magnetar_field::refusal::Refusal;
 use magnetar_hash::transcript::Transcript;
@@ -100,7 +103,9 @@ impl fmt::Display for Cleared<'_> {
 }
 
 // The number of an answer: 0 where nothing is refused.
-pub fn code<T: Copy>(answer: Result<T, Refusal>) -> u32 {
+pub fn code<T: Copy>(answer: Result<T, Refusal>) -> u32
+    ensures { result ≡ number_of answer }
+{
     match answer {
         Ok(_) => 0,
         Err(refusal) => refusal.number(),

@@ -1,0 +1,5 @@
+pub mod Words
+pub mod Lists
+pub mod Strings
+pub mod Steps
+pub mod Functions
