@@ -1,7 +1,7 @@
 -- Byte strings, one behind the other, and how long each is.
 -- Source: the form of the recorded answers (docs/VECTORS.md).
 -- Assumes nothing.
-use Rattle.std.specs.Prelude.{ℕ, ◌+◌, ◌-◌, Bool, ◌&&◌, cond, List, [], take, drop, length, nat_le, sum, slice_index}
+use Rattle.std.specs.Prelude.{ℕ, ◌+◌, ◌-◌, ◌&&◌, cond, List, [], take, drop, length, nat_le, sum, slice_index}
 use Rattle.magnetar_hash.specs.declared.transcript.Transcript.{Transcript}
 use Rattle.magnetar_replay.specs.Words.{first_32}
 

@@ -1,6 +1,9 @@
 // The functions of a matrix, over its entries in any form: OP LENT SCRATCH ROWS COLS ROW COL LO HI X Y, with as many words lent as LENT and
 // SCRATCH say.
 ghost use Rattle.std.specs.Prelude.{◌≡◌, IfOk};
+ghost use Rattle.magnetar_field.specs.Number.{number_of};
+ghost use Rattle.magnetar_matrix.specs.Numbers.{lent_by};
+ghost use Rattle.magnetar_r1cs.specs.Entries.{flagged};
 ghost use Rattle.magnetar_replay.specs.Functions as functions;
 
 use crate::show::{Element, Out, Words};
@@ -81,6 +84,37 @@ impl Places {
     }
 }
 
+// An answer that is yes or no.
+fn flag(answer: Result<bool, Refusal>) -> Result<Value, Refusal>
+    ensures { functions.handed_by result ≡ functions.flag_by (flagged answer) }
+{
+    match answer {
+        Ok(flag) => Ok(Value::Flag(flag)),
+        Err(refusal) => Err(refusal),
+    }
+}
+
+// An answer that is nothing but done.
+#[tactic(auto, using(crate::proofs::StepLaws::refused_number))]
+fn done(answer: Result<(), Refusal>) -> Result<Value, Refusal>
+    ensures { functions.handed_by result ≡ functions.handed (number_of answer) functions.handed_nothing }
+{
+    match answer {
+        Ok(_) => Ok(Value::Nothing),
+        Err(refusal) => Err(refusal),
+    }
+}
+
+// An answer that is an element.
+fn element(answer: Result<Gf128, Refusal>) -> Result<Value, Refusal>
+    ensures { functions.handed_by result ≡ functions.element_by answer }
+{
+    match answer {
+        Ok(e) => Ok(Value::Element(e)),
+        Err(refusal) => Err(refusal),
+    }
+}
+
 impl Function {
     // The function of a query; nothing where it asks for none.
     #[tactic(auto, unfolding(crate::specs::Functions::function_named))]
@@ -103,12 +137,15 @@ impl Function {
     }
 
     // What it answers.
+    #[tactic(auto, unfolding(crate::specs::Functions::function_left))]
     pub fn asked<E: Entries>(
         self,
         alloc: Global,
         nums: &[u64],
         es: &E,
-    ) -> Result<Told, AllocError> {
+    ) -> Result<Told, AllocError>
+        ensures { IfOk result (λ told. functions.left_of told ≡ functions.function_left self nums.now (E.numbers es.now)) }
+    {
         let mut words = line::marked(alloc, line::size(nums, 0).min(MOST_WORDS))?;
         let mut scratch = line::marked(alloc, line::size(nums, 1).min(MOST_SCRATCH))?;
         let rows = line::size(nums, 2);
@@ -116,26 +153,41 @@ impl Function {
         let x = line::list_from(nums, 4, 4);
         let y = line::list_from(nums, 4, 5);
         let batch = line::list_from(nums, 4, 6);
+        let q = line::size(batch, 0);
+        let w = line::size(batch, 1);
         let out = words.as_mut_slice();
         let s = scratch.as_mut_slice();
-        let answer = match self {
-            Function::IsBinary => r1cs::is_binary(rows, cols, es).map(Value::Flag),
-            Function::Apply => r1cs::apply(rows, cols, es, x, out).map(|_| Value::Nothing),
-            Function::Packed => {
-                let q = line::size(batch, 0);
-                let w = line::size(batch, 1);
-                r1cs::apply_simd_packed(rows, cols, es, x, y, q, w, out).map(Value::Flag)
-            }
-            Function::Table => {
-                r1cs::eval_mle_table(rows, cols, es, x, out, s).map(|_| Value::Nothing)
-            }
-            Function::At => r1cs::eval_mle_at(rows, cols, es, x, y, s).map(Value::Element),
-        };
+        let answer = self.run(rows, cols, es, x, y, q, w, out, s);
         Ok(Told {
             answer,
             words,
             scratch,
         })
+    }
+
+    // What it answers of a matrix, vectors or points x and y, q logins of w columns, and the words that are lent.
+    fn run<E: Entries>(
+        self,
+        rows: usize,
+        cols: usize,
+        es: &E,
+        x: &[u64],
+        y: &[u64],
+        q: usize,
+        w: usize,
+        out: &mut [u64],
+        s: &mut [u64],
+    ) -> Result<Value, Refusal>
+        ensures { record { handed_back = functions.handed_by result; out = out.new; scratch = s.new }
+            ≡ functions.left_with self (lent_by rows cols (E.numbers es.now)) x.now y.now q w out.old s.old }
+    {
+        match self {
+            Function::IsBinary => flag(r1cs::is_binary(rows, cols, es)),
+            Function::Apply => done(r1cs::apply(rows, cols, es, x, out)),
+            Function::Packed => flag(r1cs::apply_simd_packed(rows, cols, es, x, y, q, w, out)),
+            Function::Table => done(r1cs::eval_mle_table(rows, cols, es, x, out, s)),
+            Function::At => element(r1cs::eval_mle_at(rows, cols, es, x, y, s)),
+        }
     }
 
     // The answer, and the lent words that come with it.

@@ -1,4 +1,4 @@
-use Rattle.std.proofs.Common.{◌^◌, ◌-◌, min, sum, ap, ◌∙◌, refl}
+use Rattle.std.proofs.Common.{◌^◌, ◌-◌, min, sum, ap, ◌∙◌}
 use Rattle.std.proofs.lemmas.Iterator.{YieldsList-from_slice, YieldsList-from_take}
 use Rattle.std.proofs.lemmas.Iterator.Consumers.{YieldsList-at}
 use Rattle.magnetar_replay.proofs.WordLaws.{all-items}
