@@ -62,16 +62,18 @@ pub fn name(line: &[u8]) -> &[u8]
     letters
 }
 
-// What a digit stands for, in either base; 0 where it is none.
+// What a digit stands for, in either base; 0 where it is none. In this form it needs no jump, where a match on the two ranges does.
 #[tactic(auto, unfolding(crate::specs::Words::digit_value))]
 fn digit(c: u8) -> u8
     ensures value { result ≡ text.digit_value c }
     ensures small { result < 16 }
 {
-    match c {
-        b'0'..=b'9' => c - b'0',
-        b'a'..=b'f' => c - b'a' + 10,
-        _ => 0,
+    if c >= b'a' && c <= b'f' {
+        c - b'a' + 10
+    } else if c >= b'0' && c <= b'9' {
+        c - b'0'
+    } else {
+        0
     }
 }
 
