@@ -92,12 +92,8 @@ impl fmt::Display for Cleared<'_> {
     fn fmt<W: fmt::Write>(&self, f: &mut fmt::Formatter<W>) -> fmt::Result {
         let count = self.0.len();
         let zeros = self.0.iter().take_while(|w| **w == 0).count();
-        let marked = self
-            .0
-            .iter()
-            .skip(zeros)
-            .take_while(|w| **w == MARK)
-            .count();
+        let rest = self.0.get(zeros..).unwrap_or(&[]);
+        let marked = rest.iter().take_while(|w| **w == MARK).count();
         write!(f, "{count} {zeros} {marked}")
     }
 }
