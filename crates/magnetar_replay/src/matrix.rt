@@ -138,12 +138,7 @@ impl Function {
 
     // What it answers.
     #[tactic(auto, unfolding(crate::specs::Functions::function_left))]
-    pub fn asked<E: Entries>(
-        self,
-        alloc: Global,
-        nums: &[u64],
-        es: &E,
-    ) -> Result<Told, AllocError>
+    pub fn asked<E: Entries>(self, alloc: Global, nums: &[u64], es: &E) -> Result<Told, AllocError>
         ensures { IfOk result (λ told. functions.left_of told ≡ functions.function_left self nums.now (E.numbers es.now)) }
     {
         let mut words = line::marked(alloc, line::size(nums, 0).min(MOST_WORDS))?;

@@ -10,13 +10,13 @@ use Rattle.magnetar_replay.proofs.line.byte_strings.Goals as goal
 pub returns : goal.returns
 returns c =
     let all = all-items c.loop-word.yielded c.loop-word.word-iterator c.next.result c.next.new.self c.loop-word.yielded_by c.in-None.is
-        c.next.ensures.steps
-        (YieldsList-at c.into_iter-word-iterator.ensures.into_iter_gives
-        (YieldsList-from_skip 1
-        (YieldsList-at c.skip-word-items.ensures.source
-        (YieldsList-from_slice_split _ is_space c.args.line.now c.split.ensures.rest c.split.ensures.done c.split.ensures.closure
-        (λ x r q k. search (rules, tests))))
-        c.skip-word-items.ensures.count)) in
+    c.next.ensures.steps
+    (YieldsList-at c.into_iter-word-iterator.ensures.into_iter_gives
+    (YieldsList-from_skip 1
+    (YieldsList-at c.skip-word-items.ensures.source
+    (YieldsList-from_slice_split _ is_space c.args.line.now c.split.ensures.rest c.split.ensures.done c.split.ensures.closure
+    (λ x r q k. search (rules, tests))))
+    c.skip-word-items.ensures.count)) in
     let halves : List ℕ → ℕ = λ w. length w / 2 in (
       c.loop-word.invariant.bytes_so_far ∙ sym (flat_map-map spelled_bytes _ c.loop-word.yielded) ∙ ap (flat_map spelled_bytes) all,
       c.loop-word.invariant.lens_so_far ∙ sym (map-map halves _ c.loop-word.yielded) ∙ ap (map halves) all,

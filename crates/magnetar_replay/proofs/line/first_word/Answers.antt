@@ -8,7 +8,7 @@ use Rattle.magnetar_replay.proofs.line.first_word.Goals as goal
 pub returns : goal.returns
 returns c =
     let first = first-item c.next.result c.next.new.self c.args.line c.next.ensures.steps
-        (YieldsList-from_slice_split _ is_space c.args.line.now c.split.ensures.rest c.split.ensures.done c.split.ensures.closure
-        (λ x r q k. search (rules, tests)))
-        (omega (arith, length-slice_split is_space c.args.line.now)) in
+    (YieldsList-from_slice_split _ is_space c.args.line.now c.split.ensures.rest c.split.ensures.done c.split.ensures.closure
+    (λ x r q k. search (rules, tests)))
+    (omega (arith, length-slice_split is_space c.args.line.now)) in
     rw c.unwrap_or.ensures first

@@ -11,11 +11,11 @@ loop-c-preserved c =
     let digit = c.from-d.ensures ∙ c.digit.ensures.value in
     letter-more (base_of word) word c.loop-c.c-index c.loop-c.value c.match-c.value (omega arith) c.loop-c.invariant
     (elim c.match-c.branch [
-      in-120-default w ↦ w.value-is ∙ letter-x (base_of word) c.loop-c.value letter w.in-120-default.is-0
+      | in-120-default w ↦ w.value-is ∙ letter-x (base_of word) c.loop-c.value letter w.in-120-default.is-0
       | in_default-true w ↦
-      letter-hex word c.loop-c.value letter c.from-d.result _ w.in_default-true.ensures w.in_default-true.is-0.1 digit (omega arith) w.value-is
+          letter-hex word c.loop-c.value letter c.from-d.result _ w.in_default-true.ensures w.in_default-true.is-0.1 digit (omega arith) w.value-is
       | in_default-false w ↦
-      letter-decimal word c.loop-c.value letter c.from-d.result _ w.in_default-false.ensures w.in_default-false.is-0.1 digit w.value-is
+          letter-decimal word c.loop-c.value letter c.from-d.result _ w.in_default-false.ensures w.in_default-false.is-0.1 digit w.value-is
     ])
 
 pub returns : goal.returns
