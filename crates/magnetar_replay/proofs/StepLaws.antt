@@ -2,7 +2,10 @@
 -- Assumes nothing.
 use Rattle.std.proofs.Common.{◌≡◌, false, refl, nat_eq}
 use Rattle.magnetar_field.specs.declared.refusal.Refusal.{Refusal}
-use Rattle.magnetar_field.specs.declared.refusal.Refusal.TheVariants.{Size, PackedWords, PublicWords, Rows, Columns, EntryCount, EntryPlace, SegmentLength, LayoutEnd, SegmentCount, Length, NotBits, MaskBits, Counter, Room, ProofWords, PartLengths, SharedBin, SharedFld, RowBin, RowFld, TerminalBin, TerminalFld, InnerRound, InnerTerminal, SegmentIdentity}
+use Rattle.magnetar_field.specs.declared.refusal.Refusal.TheVariants.{Size, PackedWords, PublicWords, Rows, Columns, EntryCount, EntryPlace}
+use Rattle.magnetar_field.specs.declared.refusal.Refusal.TheVariants.{SegmentLength, LayoutEnd, SegmentCount, Length, NotBits, MaskBits, Counter}
+use Rattle.magnetar_field.specs.declared.refusal.Refusal.TheVariants.{Room, ProofWords, PartLengths, SharedBin, SharedFld, RowBin, RowFld}
+use Rattle.magnetar_field.specs.declared.refusal.Refusal.TheVariants.{TerminalBin, TerminalFld, InnerRound, InnerTerminal, SegmentIdentity}
 use Rattle.magnetar_field.specs.Number.{number}
 
 pub refused_number : (r : Refusal) → nat_eq (number r) 0 ≡ false

@@ -1,6 +1,8 @@
 -- Laws on letters and words.
 -- Assumes nothing.
-use Rattle.std.proofs.Common.{◌≡◌, ◌≢◌, ℕ, suc, ◌+◌, ◌-◌, ◌*◌, ◌%◌, ◌^◌, ◌<◌, ◌≤◌, bit_or, Bool, true, false, cond, List, [], ◌∷◌, ◌++◌, length, get_or, take, drop, map, fold, Option, Some, None, unwrap_or, bytes_eq, refl, sym, ◌∙◌, ap, arith, append_assoc, add-one, eq-eqb}
+use Rattle.std.proofs.Common.{◌≡◌, ◌≢◌, ℕ, suc, ◌+◌, ◌-◌, ◌*◌, ◌%◌, ◌^◌, ◌<◌, ◌≤◌, bit_or, Bool, true, false, cond, List, [], ◌∷◌, ◌++◌, length}
+use Rattle.std.proofs.Common.{get_or, take, drop, map, fold, Option, Some, None, unwrap_or, bytes_eq, refl, sym, ◌∙◌, ap, arith, append_assoc}
+use Rattle.std.proofs.Common.{add-one, eq-eqb}
 use borrow.Author.Tests.{ne_eqb}
 use denote.Ref.{Bor}
 use Rattle.std.specs.Iterator.{Yields}

@@ -11,7 +11,8 @@ use Rattle.magnetar_field.specs.Words.{elements}
 use Rattle.magnetar_matrix.specs.Lent.{Lent, matrix_of}
 use Rattle.magnetar_matrix.specs.Matrix.{mle_at, binary, bit_valued}
 use Rattle.magnetar_matrix.specs.Numbers.{Numbers, lent_by}
-use Rattle.magnetar_r1cs.specs.Entries.{Flagged, flag, refusal, flagged_of, binary_refusal, apply_refusal, apply_out, packed_refusal, packed_out, table_refusal, table_out, table_scratch, at_refusal, at_scratch}
+use Rattle.magnetar_r1cs.specs.Entries.{Flagged, flag, refusal, flagged_of, binary_refusal, apply_refusal, apply_out, packed_refusal, packed_out}
+use Rattle.magnetar_r1cs.specs.Entries.{table_refusal, table_out, table_scratch, at_refusal, at_scratch}
 use Rattle.magnetar_replay.specs.Lists.{list_behind, at_most, marked_words}
 use Rattle.magnetar_replay.specs.declared.matrix.Function.{Function}
 use Rattle.magnetar_replay.specs.declared.matrix.Function.TheVariants.{IsBinary, Apply, Packed, Table, At}

@@ -1,7 +1,8 @@
 -- A line: words between spaces. The first names a query, and those behind it spell numbers or byte strings.
 -- Source: the form of the recorded answers (docs/VECTORS.md).
 -- Assumes nothing.
-use Rattle.std.specs.Prelude.{ℕ, ◌+◌, ◌-◌, ◌*◌, ◌/◌, ◌%◌, ◌^◌, Bool, ◌&&◌, cond, List, [], ◌∷◌, map, length, drop, fold, codes, slice_index, slice_index_or, nat_le, ◌==◌, bytes_eq, flat_map}
+use Rattle.std.specs.Prelude.{ℕ, ◌+◌, ◌-◌, ◌*◌, ◌/◌, ◌%◌, ◌^◌, Bool, ◌&&◌, cond, List, [], ◌∷◌, map, length, drop, fold, codes, slice_index}
+use Rattle.std.specs.Prelude.{slice_index_or, nat_le, ◌==◌, bytes_eq, flat_map}
 use Rattle.std.specs.List.{slice_split, prefix_len}
 use Rattle.magnetar_field.specs.Tabulate.{tabulate}
 
