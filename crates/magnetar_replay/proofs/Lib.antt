@@ -1,2 +1,4 @@
+pub mod Examples
+pub mod TextLaws
 pub mod WordLaws
 pub mod StepLaws

@@ -1,5 +1,6 @@
 pub mod Words
 pub mod Lists
+pub mod Text
 pub mod Strings
 pub mod Steps
 pub mod Functions

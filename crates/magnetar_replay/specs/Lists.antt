@@ -1,7 +1,7 @@
 -- Lists among numbers: each is a count, and as many numbers behind it, or as many as there are.
 -- Source: the form of the recorded answers (docs/VECTORS.md).
 -- Assumes nothing.
-use Rattle.std.specs.Prelude.{ℕ, zero, suc, cond, List, [], ◌∷◌, length, take, drop, replicate, nat_lt}
+use Rattle.std.specs.Prelude.{ℕ, zero, suc, Bool, cond, List, [], ◌∷◌, length, take, drop, replicate, nat_lt, ◌==◌}
 
 -- the list in front
 abbrev pub front_list : List ℕ → List ℕ
@@ -29,6 +29,10 @@ at_most nums most = cond (nat_lt most (length nums)) [] nums
 -- what stands in a lent word before a call
 abbrev pub mark : ℕ
 mark = 0x5a5a5a5a5a5a5a5a
+
+-- a word that still holds it
+abbrev pub is_marked : ℕ → Bool
+is_marked w = w == mark
 
 -- n such words
 abbrev pub marked_words : ℕ → List ℕ
