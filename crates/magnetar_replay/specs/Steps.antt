@@ -2,16 +2,19 @@
 -- words.
 -- Source: the form of the recorded answers (docs/VECTORS.md).
 -- Assumes nothing.
-use Rattle.std.specs.Prelude.{ℕ, cond, List, [], Option, Some, None, Result, Ok, Err, codes, min, slice_index, ◌==◌, bytes_eq}
+use Rattle.std.specs.Prelude.{ℕ, cond, List, [], Option, Some, None, Result, Ok, Err, codes, decimal, min, slice_index, ◌==◌, bytes_eq}
 use Rattle.magnetar_field.specs.declared.gf128.Gf128.{Gf128}
 use Rattle.magnetar_field.specs.declared.refusal.Refusal.{Refusal}
+use Rattle.magnetar_field.specs.Gf128.{value}
 use Rattle.magnetar_field.specs.Number.{number_of}
+use Rattle.magnetar_field.specs.Refusal.{unless_refused}
 use Rattle.magnetar_hash.specs.declared.transcript.Transcript.{Transcript}
 use Rattle.magnetar_hash.specs.Bytes.{le_bytes}
 use Rattle.magnetar_hash.specs.Transcript.{TranscriptAnswer, DrawAnswer, absorb_answer, field_answer, draw_answer, draws_answer, draws_out}
 use Rattle.magnetar_replay.specs.Words.{first_32}
 use Rattle.magnetar_replay.specs.Lists.{list_behind, marked_words}
 use Rattle.magnetar_replay.specs.Strings.{string_at}
+use Rattle.magnetar_replay.specs.Text.{words_text, element_text, state_text, spaced, told_line, refusal_line}
 use Rattle.magnetar_replay.specs.declared.step.Step.{Step}
 use Rattle.magnetar_replay.specs.declared.step.Step.TheVariants.{Bytes, Number, Digest, Elements, Draw, Draws}
 use Rattle.magnetar_replay.specs.declared.step.Told.{Told}
@@ -90,3 +93,16 @@ step_left draws_one t label = left_drawn (draw_answer t label) []
 step_left (draws_many n lent) t label =
     let size = min lent 4096 in
     left_by (draws_answer t label n size) (draws_out t label n (marked_words size))
+
+-- ---- what is written
+-- the element drawn, where one is, and a text behind it
+abbrev drawn_before : Option Gf128 → List ℕ → List ℕ
+drawn_before None text = text
+drawn_before (Some e) text = spaced (element_text (value e)) text
+
+-- the line of what a step left: the words, the number and the transcript where several elements were to be drawn, else the element where one is
+-- drawn and the transcript, or the number of the refusal and the transcript
+abbrev pub step_line : Meant → Left → List ℕ
+step_line (draws_many n lent) left = told_line (spaced (words_text left.words) (spaced (decimal left.code) (state_text left.transcript)))
+step_line _ left = unless_refused left.code (told_line (drawn_before left.drawn (state_text left.transcript)))
+    (refusal_line (spaced (decimal left.code) (state_text left.transcript)))

@@ -1,13 +1,14 @@
 // What is done with a transcript, by value: OP STATE CTR LABEL, and then what is absorbed, or how many elements are drawn into how many
 // words.
-ghost use Rattle.std.specs.Prelude.{◌≡◌, IfOk, option_map};
+ghost use Rattle.std.specs.Prelude.{◌≡◌, IfOk, OnOk, option_map};
+ghost use Rattle.std.specs.Io.KnownBytes.{Appends};
 ghost use Rattle.magnetar_replay.specs.Lists.{marked_words};
 ghost use Rattle.magnetar_hash.specs.Transcript.{answer_of, draw_answer_of};
 ghost use Rattle.magnetar_replay.specs.Steps as steps;
 
 use crate::line;
 use crate::line::Strings;
-use crate::show::{Element, Out, State, Words};
+use crate::show::{Element, State, Words};
 use magnetar_field::gf128::Gf128;
 use magnetar_field::refusal::Refusal;
 use magnetar_hash::transcript;
@@ -131,7 +132,10 @@ impl<'a> Step<'a> {
 
     // The number of a refusal, or the element where one is asked for, and the transcript; of several draws the words, the number and the
     // transcript.
-    pub fn write(self, out: &mut Out, told: &Told) -> io::Result<()> {
+    pub fn write<W: Write>(self, out: &mut W, told: &Told) -> io::Result<()>
+        ensures { OnOk result
+            (Appends (W.contents out.old) (W.contents out.new) (steps.step_line (steps.meant self.entry) (steps.left_of told.now))) }
+    {
         let state = State(told.transcript);
         if let Step::Draws(_, _) = self {
             let words = Words(told.words.as_slice());
