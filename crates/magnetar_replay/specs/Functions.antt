@@ -1,7 +1,7 @@
 -- The functions of a matrix: OP LENT SCRATCH ROWS COLS ROW COL LO HI X Y, with as many words lent as LENT and SCRATCH say.
 -- Source: the form of the recorded answers (docs/VECTORS.md).
 -- Assumes nothing.
-use Rattle.std.specs.Prelude.{ℕ, Bool, cond, List, Option, Some, None, Result, Ok, Err, codes, min, slice_index, bytes_eq}
+use Rattle.std.specs.Prelude.{ℕ, Bool, cond, List, [], ◌++◌, Option, Some, None, Result, Ok, Err, codes, min, slice_index, bytes_eq}
 use Rattle.magnetar_field.specs.declared.refusal.Refusal.{Refusal}
 use Rattle.magnetar_field.specs.declared.gf128.Gf128.{Gf128}
 use Rattle.magnetar_field.specs.Gf128.{value}
@@ -14,6 +14,7 @@ use Rattle.magnetar_matrix.specs.Numbers.{Numbers, lent_by}
 use Rattle.magnetar_r1cs.specs.Entries.{Flagged, flag, refusal, flagged_of, binary_refusal, apply_refusal, apply_out, packed_refusal, packed_out}
 use Rattle.magnetar_r1cs.specs.Entries.{table_refusal, table_out, table_scratch, at_refusal, at_scratch}
 use Rattle.magnetar_replay.specs.Lists.{list_behind, at_most, marked_words}
+use Rattle.magnetar_replay.specs.Text.{element_text, flag_text, told_line, refused_line, listed_line, written_line}
 use Rattle.magnetar_replay.specs.declared.matrix.Function.{Function}
 use Rattle.magnetar_replay.specs.declared.matrix.Function.TheVariants.{IsBinary, Apply, Packed, Table, At}
 use Rattle.magnetar_replay.specs.declared.matrix.Value.{Value}
@@ -106,3 +107,24 @@ function_left f nums es =
     left_with f (lent_by (slice_index nums 2) (slice_index nums 3) es) (list_behind nums 4 4) (list_behind nums 4 5)
     (slice_index batch 0) (slice_index batch 1)
     (marked_words (min (slice_index nums 0) 4096)) (marked_words (min (slice_index nums 1) 1024))
+
+-- ---- what is written
+-- the line of what a function handed back, and of the words lent to be written to
+abbrev handed_line : Function → Handed → (out : List ℕ) → List ℕ
+handed_line f handed_nothing out = written_line 0 out
+handed_line f (handed_flag b) out = told_line (flag_text b)
+handed_line f (handed_element v) out = told_line (element_text v)
+handed_line Apply (handed_refusal n) out = written_line n out
+handed_line Table (handed_refusal n) out = written_line n out
+handed_line f (handed_refusal n) out = refused_line n
+
+-- the line of words that comes after it, where one does
+abbrev words_line : Function → Left → List ℕ
+words_line Packed left = listed_line left.out
+words_line Table left = listed_line left.scratch
+words_line At left = listed_line left.scratch
+words_line f left = []
+
+-- the lines of what a function left
+abbrev pub function_lines : Function → Left → List ℕ
+function_lines f left = handed_line f left.handed_back left.out ++ words_line f left

@@ -1,12 +1,13 @@
 // The functions of a matrix, over its entries in any form: OP LENT SCRATCH ROWS COLS ROW COL LO HI X Y, with as many words lent as LENT and
 // SCRATCH say.
-ghost use Rattle.std.specs.Prelude.{◌≡◌, IfOk};
+ghost use Rattle.std.specs.Prelude.{◌≡◌, IfOk, OnOk};
+ghost use Rattle.std.specs.Io.KnownBytes.{Appends};
 ghost use Rattle.magnetar_field.specs.Number.{number_of};
 ghost use Rattle.magnetar_matrix.specs.Numbers.{lent_by};
 ghost use Rattle.magnetar_r1cs.specs.Entries.{flagged};
 ghost use Rattle.magnetar_replay.specs.Functions as functions;
 
-use crate::show::{Element, Out, Words};
+use crate::show::Element;
 use crate::{line, show};
 use magnetar_field::gf128::Gf128;
 use magnetar_field::refusal::Refusal;
@@ -186,7 +187,10 @@ impl Function {
     }
 
     // The answer, and the lent words that come with it.
-    pub fn write(self, out: &mut Out, told: &Told) -> io::Result<()> {
+    pub fn write<W: Write>(self, out: &mut W, told: &Told) -> io::Result<()>
+        ensures { OnOk result
+            (Appends (W.contents out.old) (W.contents out.new) (functions.function_lines self (functions.left_of told.now))) }
+    {
         match told.answer {
             Ok(Value::Flag(flag)) => writeln!(out, "= {flag}")?,
             Ok(Value::Element(e)) => {
