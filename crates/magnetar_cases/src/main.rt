@@ -11,6 +11,7 @@ mod runs;
 
 use crate::case::Case;
 use crate::room::Rooms;
+use magnetar_replay::replay::Queries;
 use magnetar_replay::show::Out;
 use magnetar_replay::{line, replay};
 use std::alloc::Global;
@@ -23,45 +24,52 @@ const MOST_INPUT: usize = 2097152;
 // How many numbers a query may have.
 const MOST: usize = 1024;
 
-// Answers the query of a line on the last relation, or says that it is none.
-fn answer(
+// What answers the queries of a line: the last relation, and words to lend.
+#[derive(Drop)]
+struct Cases {
     alloc: Global,
-    out: &mut Out,
-    text: &[u8],
-    case: &mut Case,
-    rooms: &mut Rooms,
-) -> io::Result<bool> {
-    let nums = line::numbers(alloc, text)?;
-    if line::name(text) == b"case".as_slice() {
-        if nums.len() > case::MOST {
-            replay::too_long(out)?;
+    case: Case,
+    rooms: Rooms,
+}
+
+impl Queries<Out> for Cases {
+    fn answer(&mut self, out: &mut Out, text: &[u8]) -> io::Result<bool> {
+        let alloc = self.alloc;
+        let nums = line::numbers(alloc, text)?;
+        if line::name(text) == b"case".as_slice() {
+            if nums.len() > case::MOST {
+                replay::too_long(out)?;
+            }
+            self.case = Case::new(alloc, nums)?;
+            return Ok(true);
         }
-        *case = Case::new(alloc, nums)?;
-        return Ok(true);
+        if nums.len() > MOST {
+            replay::too_long(out)?;
+            return Ok(true);
+        }
+        let name = line::name(text);
+        let nums = nums.as_slice();
+        let case = &mut self.case;
+        let rooms = &mut self.rooms;
+        if matrices::answer(alloc, out, name, nums, case, rooms)? {
+            return Ok(true);
+        }
+        if checks::answer(alloc, out, name, nums, case, rooms)? {
+            return Ok(true);
+        }
+        runs::answer(alloc, out, name, line::hash(text), nums, case, rooms)
     }
-    if nums.len() > MOST {
-        replay::too_long(out)?;
-        return Ok(true);
-    }
-    let name = line::name(text);
-    let nums = nums.as_slice();
-    if matrices::answer(alloc, out, name, nums, case, rooms)? {
-        return Ok(true);
-    }
-    if checks::answer(alloc, out, name, nums, case, rooms)? {
-        return Ok(true);
-    }
-    runs::answer(alloc, out, name, line::hash(text), nums, case, rooms)
 }
 
 fn main(rt: HostRuntime) -> io::Result<()> {
     let alloc = rt.alloc();
     let mut out = BufWriter::new(alloc, rt.stdout())?;
     let input = replay::read(alloc, rt.reader(), MOST_INPUT)?;
-    let mut case = Case::new(alloc, Vec::new(alloc))?;
-    let mut rooms = Rooms::new(alloc);
-    replay::replay(&mut out, input.as_slice(), MOST_INPUT, |out, text| {
-        answer(alloc, out, text, &mut case, &mut rooms)
-    })?;
+    let mut queries = Cases {
+        alloc,
+        case: Case::new(alloc, Vec::new(alloc))?,
+        rooms: Rooms::new(alloc),
+    };
+    replay::replay(&mut out, input.as_slice(), MOST_INPUT, &mut queries)?;
     out.flush()
 }

@@ -6,6 +6,7 @@
 mod hash;
 mod matrix;
 
+use magnetar_replay::replay::Queries;
 use magnetar_replay::show::Out;
 use magnetar_replay::{line, replay};
 use std::alloc::Global;
@@ -22,34 +23,38 @@ const MOST_STRINGS: usize = 256;
 
 const MOST_BYTES: usize = 8192;
 
-// Answers the query of a line, or says that it is none.
-fn answer(alloc: Global, out: &mut Out, text: &[u8]) -> io::Result<bool> {
-    let nums = line::numbers(alloc, text)?;
-    if nums.len() > MOST {
-        replay::too_long(out)?;
-        return Ok(true);
+// What answers the queries.
+#[derive(Drop)]
+struct Forms {
+    alloc: Global,
+}
+
+impl Queries<Out> for Forms {
+    fn answer(&mut self, out: &mut Out, text: &[u8]) -> io::Result<bool> {
+        let alloc = self.alloc;
+        let nums = line::numbers(alloc, text)?;
+        if nums.len() > MOST {
+            replay::too_long(out)?;
+            return Ok(true);
+        }
+        let name = line::name(text);
+        if matrix::answer(alloc, out, name, nums.as_slice())? {
+            return Ok(true);
+        }
+        let strings = line::byte_strings(alloc, text)?;
+        if strings.lens.len() > MOST_STRINGS || text.len() / 2 > MOST_BYTES {
+            replay::too_long(out)?;
+            return Ok(true);
+        }
+        hash::answer(alloc, out, name, nums.as_slice(), &strings)
     }
-    let name = line::name(text);
-    if matrix::answer(alloc, out, name, nums.as_slice())? {
-        return Ok(true);
-    }
-    let strings = line::byte_strings(alloc, text)?;
-    if strings.lens.len() > MOST_STRINGS || text.len() / 2 > MOST_BYTES {
-        replay::too_long(out)?;
-        return Ok(true);
-    }
-    hash::answer(alloc, out, name, nums.as_slice(), &strings)
 }
 
 fn main(rt: HostRuntime) -> io::Result<()> {
     let alloc = rt.alloc();
     let mut out = BufWriter::new(alloc, rt.stdout())?;
     let input = replay::read(alloc, rt.reader(), MOST_INPUT)?;
-    replay::replay(
-        &mut out,
-        input.as_slice(),
-        MOST_INPUT,
-        |out, text| answer(alloc, out, text),
-    )?;
+    let mut queries = Forms { alloc };
+    replay::replay(&mut out, input.as_slice(), MOST_INPUT, &mut queries)?;
     out.flush()
 }

@@ -2,3 +2,4 @@ pub mod Examples
 pub mod TextLaws
 pub mod WordLaws
 pub mod StepLaws
+pub mod ReplayLaws

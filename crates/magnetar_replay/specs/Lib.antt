@@ -4,3 +4,4 @@ pub mod Text
 pub mod Strings
 pub mod Steps
 pub mod Functions
+pub mod Replay

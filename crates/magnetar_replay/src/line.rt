@@ -153,11 +153,11 @@ fn byte(letters: &[u8]) -> u8
     }
 }
 
-// The letters from index i on.
-fn behind(letters: &[u8], i: usize) -> &[u8]
-    ensures { result.now ≡ drop i letters.now }
+// The items from index i on.
+pub(crate) fn behind<T>(items: &[T], i: usize) -> &[T]
+    ensures { result.now ≡ drop i items.now }
 {
-    letters.get(i..).unwrap_or(&[])
+    items.get(i..).unwrap_or(&[])
 }
 
 // The 32 bytes that the letters spell behind the name, whatever they are.
@@ -258,7 +258,7 @@ pub fn list(nums: &[u64], k: usize) -> &[u64]
 pub fn list_from(nums: &[u64], i: usize, k: usize) -> &[u64]
     ensures { result.now ≡ lists.list_behind nums.now i k }
 {
-    list(nums.get(i..).unwrap_or(&[]), k)
+    list(behind(nums, i), k)
 }
 
 // The number at index i, or 0.

@@ -1,5 +1,5 @@
 // How answers are written.
-ghost use Rattle.std.specs.Prelude.{◌≡◌, Some, IfSome, OnOk, drop};
+ghost use Rattle.std.specs.Prelude.{◌≡◌, Some, IfSome, OnOk};
 ghost use Rattle.std.specs.List.{prefix_len};
 ghost use Rattle.std.specs.Fmt.{WritesOnOk};
 ghost use Rattle.std.specs.Io.KnownBytes.{Appends};
@@ -9,6 +9,7 @@ ghost use Rattle.magnetar_replay.specs.Words.{is_zero};
 ghost use Rattle.magnetar_replay.specs.Lists.{is_marked};
 ghost use Rattle.magnetar_replay.specs.Text as text;
 
+use crate::line;
 use magnetar_field::gf128::Gf128;
 use magnetar_field::refusal::Refusal;
 use magnetar_hash::transcript::Transcript;
@@ -119,13 +120,6 @@ fn marked(words: &[u64]) -> usize
     words.iter().take_while(|w| **w == MARK).count()
 }
 
-// The words from index i on.
-fn behind(words: &[u64], i: usize) -> &[u64]
-    ensures { result.now ≡ drop i words.now }
-{
-    words.get(i..).unwrap_or(&[])
-}
-
 // How many words there are, how many of them are zero at the front, and how many after these are still marked.
 #[derive(Clone, Copy)]
 pub struct Cleared<'a>(pub &'a [u64]);
@@ -136,7 +130,7 @@ impl fmt::Display for Cleared<'_> {
     fn fmt<W: fmt::Write>(&self, f: &mut fmt::Formatter<W>) -> fmt::Result {
         let count = self.0.len();
         let zeros = zeros(self.0);
-        let marked = marked(behind(self.0, zeros));
+        let marked = marked(line::behind(self.0, zeros));
         write!(f, "{count} {zeros} {marked}")
     }
 }
