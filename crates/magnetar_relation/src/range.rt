@@ -16,6 +16,8 @@ pub fn after(a: usize, k: usize, n: usize) -> usize
 
 // The k entries from place a on, as far as there are as many.
 pub fn part<'a, E: Entries>(es: &'a E, a: usize, k: usize) -> Part<'a, E>
+    ensures of { result.entries.now ≡ es.now }
+    ensures start { result.from ≡ a }
     ensures end { result.to ≡ min (a + k) (length (entries_by (E.numbers es.now))) }
     ensures entries { entries_by (part result.from result.to (E.numbers result.entries.now)) ≡ take k (drop a (entries_by (E.numbers es.now))) }
 {

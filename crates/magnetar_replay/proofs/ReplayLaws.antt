@@ -1,7 +1,7 @@
 -- Laws on what is written of an input, a line after another.
 -- Assumes nothing.
-use Rattle.std.proofs.Common.{◌≡◌, ℕ, ◌+◌, ◌-◌, ◌<◌, ◌≤◌, suc, nat_lt, Bool, cond, not, true, false, List, [], ◌∷◌, ◌++◌, length}
-use Rattle.std.proofs.Common.{take, drop, get_or, Option, None, Some, refl, sym, ap, arith}
+use Rattle.std.proofs.Common.{◌≡◌, ℕ, ◌+◌, ◌-◌, ◌<◌, ◌≤◌, suc, nat_lt, Bool, cond, not, true, false, List, [], ◌∷◌, ◌++◌}
+use Rattle.std.proofs.Common.{length, take, drop, get_or, Option, None, Some, refl, sym, ap, arith}
 use denote.Ref.{Bor}
 use Rattle.std.specs.List.{slice_split, position, position_or_len, onto_first, FoldsTo}
 use Rattle.std.proofs.lemmas.List.Sums.{position_or_len_is}
@@ -27,7 +27,7 @@ module _ {Q : Type 0} (answers : Q → List ℕ → Bool → List ℕ → Q → 
   unknown p line k q a b c e n w g =
       (w.0 ++ unless_known k, rw e (k, w.0, w.1, refl), Appends-trans a b c w.0 (unless_known k) w.2 g)
 
-  -- what is left of the lines, replayed from here on, ends where all of them do from the start, and known bytes grew by what was written so far
+  -- what is left of the lines, replayed from here on, ends where all of them do from the start; known bytes grew by what was written
   abbrev pub Replaying : Q → (lines : List (List ℕ)) → (a : Option (List ℕ)) → Q → (left : List (List ℕ)) → (b : Option (List ℕ)) → Type 0
   Replaying p₀ lines a p left b = (written : List ℕ)
       × ((t : Q × List ℕ) → FoldsTo (LineAdded answers) (p, written) left t → FoldsTo (LineAdded answers) (p₀, []) lines t)
@@ -49,7 +49,8 @@ pub rest-of : (xs : List ℕ) (n : ℕ) → take (length xs - n) (drop n xs) ≡
 rest-of xs n = rw (sym (length-drop n xs)) (take-length (drop n xs))
 
 -- a list parts where a line break stands behind others that are none
-pub parts-at : (xs : List ℕ) (i : ℕ) → (i < length xs) × (is_break (get_or xs i 0) ≡ true) × ((k : ℕ) → k < i → is_break (get_or xs k 0) ≡ false)
+pub parts-at : (xs : List ℕ) (i : ℕ)
+    → (i < length xs) × (is_break (get_or xs i 0) ≡ true) × ((k : ℕ) → k < i → is_break (get_or xs k 0) ≡ false)
     → slice_split is_break xs ≡ take i xs ∷ slice_split is_break (drop (i + 1) xs)
 parts-at xs i h =
     let e = position_or_len_is is_break xs i 0 (omega (arith, h.0)) h.2 (λ _. h.1) in

@@ -14,7 +14,7 @@ use Rattle.magnetar_hash.specs.Transcript.{TranscriptAnswer, DrawAnswer, absorb_
 use Rattle.magnetar_replay.specs.Words.{first_32}
 use Rattle.magnetar_replay.specs.Lists.{list_behind, marked_words}
 use Rattle.magnetar_replay.specs.Strings.{string_at}
-use Rattle.magnetar_replay.specs.Text.{words_text, element_text, state_text, spaced, told_line, refusal_line}
+use Rattle.magnetar_replay.specs.Text.{words_text, element_text, state_text, spaced, told_line, turned_back_line}
 use Rattle.magnetar_replay.specs.declared.step.Step.{Step}
 use Rattle.magnetar_replay.specs.declared.step.Step.TheVariants.{Bytes, Number, Digest, Elements, Draw, Draws}
 use Rattle.magnetar_replay.specs.declared.step.Told.{Told}
@@ -96,13 +96,13 @@ step_left (draws_many n lent) t label =
 
 -- ---- what is written
 -- the element drawn, where one is, and a text behind it
-abbrev drawn_before : Option Gf128 → List ℕ → List ℕ
-drawn_before None text = text
-drawn_before (Some e) text = spaced (element_text (value e)) text
+abbrev element_before : Option Gf128 → List ℕ → List ℕ
+element_before None text = text
+element_before (Some e) text = spaced (element_text (value e)) text
 
 -- the line of what a step left: the words, the number and the transcript where several elements were to be drawn, else the element where one is
 -- drawn and the transcript, or the number of the refusal and the transcript
 abbrev pub step_line : Meant → Left → List ℕ
 step_line (draws_many n lent) left = told_line (spaced (words_text left.words) (spaced (decimal left.code) (state_text left.transcript)))
-step_line _ left = unless_refused left.code (told_line (drawn_before left.drawn (state_text left.transcript)))
-    (refusal_line (spaced (decimal left.code) (state_text left.transcript)))
+step_line _ left = unless_refused left.code (told_line (element_before left.drawn (state_text left.transcript)))
+    (turned_back_line (spaced (decimal left.code) (state_text left.transcript)))

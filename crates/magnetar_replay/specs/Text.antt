@@ -56,16 +56,16 @@ cleared_text ws =
 abbrev pub line_of : List ℕ → List ℕ
 line_of text = text ++ (10 ∷ [])
 
--- a line that answers, and one that refuses
+-- a line that tells an answer, and one that turns back
 abbrev pub told_line : List ℕ → List ℕ
 told_line text = line_of (codes "= " ++ text)
 
-abbrev pub refusal_line : List ℕ → List ℕ
-refusal_line text = line_of (codes "! " ++ text)
+abbrev pub turned_back_line : List ℕ → List ℕ
+turned_back_line text = line_of (codes "! " ++ text)
 
 -- a refusal's number, words, and the number of an answer with the lent words after it
 abbrev pub refused_line : ℕ → List ℕ
-refused_line n = refusal_line (decimal n)
+refused_line n = turned_back_line (decimal n)
 
 abbrev pub listed_line : List ℕ → List ℕ
 listed_line ws = told_line (words_text ws)
@@ -74,6 +74,6 @@ abbrev pub written_line : ℕ → List ℕ → List ℕ
 written_line n ws = told_line (spaced (decimal n) (words_text ws))
 
 -- what a call answered, or the number of its refusal; nothing is said where nothing is known of the answer's text
-abbrev pub answer_line : {A : Type 0} → (A → Option (List ℕ)) → Result A Refusal → Option (List ℕ)
-answer_line text (Ok a) = option_map told_line (text a)
-answer_line text (Err r) = Some (refused_line (number r))
+abbrev pub call_line : {A : Type 0} → (A → Option (List ℕ)) → Result A Refusal → Option (List ℕ)
+call_line text (Ok a) = option_map told_line (text a)
+call_line text (Err r) = Some (refused_line (number r))

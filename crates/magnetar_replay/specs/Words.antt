@@ -24,7 +24,7 @@ abbrev pub later_words : List ℕ → List (List ℕ)
 later_words line = drop 1 (line_words line)
 
 -- ---- the name
--- a byte of zeros
+-- zero, as a byte or as a word
 abbrev pub is_zero : ℕ → Bool
 is_zero c = c == 0
 

@@ -2,7 +2,7 @@
 ghost use Rattle.std.specs.Prelude.{ℕ, Bool, List, ◌∷◌, IfOk, IfSome, OnOk, ◌≡◌, ◌<◌, take, length, ⊤};
 ghost use Rattle.std.specs.List.{slice_split, position};
 ghost use Rattle.std.specs.Io.KnownBytes.{Appends};
-ghost use Rattle.magnetar_replay.specs.Replay as text;
+ghost use Rattle.magnetar_replay.specs.Replay as spec;
 
 use std::alloc::Global;
 use std::io;
@@ -10,7 +10,7 @@ use std::io::{Read, Write};
 
 // Who knows queries, and writes their answers to a W.
 pub trait Queries<W: Write> {
-    // What a line may be answered by: whether its query is known, and the text. An impl that leaves this out claims nothing.
+    // What a line may be answered by: whether its query is known, and the spec. An impl that leaves this out claims nothing.
     ghost answers: { Self → (line : List ℕ) → (known : Bool) → (text : List ℕ) → Self → Type 0 } = { λ _ _ _ _ _. ⊤ };
 
     // Answers the query of a line, or says that it is none.
@@ -21,21 +21,21 @@ pub trait Queries<W: Write> {
 
 // A line where there is more to read than room for it.
 pub fn too_long<W: Write>(out: &mut W) -> io::Result<()>
-    ensures { OnOk result (Appends (W.contents out.old) (W.contents out.new) text.too_long_line) }
+    ensures { OnOk result (Appends (W.contents out.old) (W.contents out.new) spec.too_long_line) }
 {
     writeln!(out, "input too long")
 }
 
 // A line that begins with # is copied.
 fn is_copied(line: &[u8]) -> bool
-    ensures { result ≡ text.is_copied line.now }
+    ensures { result ≡ spec.is_copied line.now }
 {
     line.first().copied() == Some(b'#')
 }
 
 // Answers a line: one that begins with # is copied, and one whose query nobody knows is said to be such.
 fn answer_line<W: Write, Q: Queries<W>>(out: &mut W, line: &[u8], queries: &mut Q) -> io::Result<()>
-    ensures { OnOk result ((written : List ℕ) × text.LineReplayed Q.answers queries.old line.now written queries.new
+    ensures { OnOk result ((written : List ℕ) × spec.LineReplayed Q.answers queries.old line.now written queries.new
         × Appends (W.contents out.old) (W.contents out.new) written) }
 {
     if is_copied(line) {
@@ -50,21 +50,21 @@ fn answer_line<W: Write, Q: Queries<W>>(out: &mut W, line: &[u8], queries: &mut 
 
 // The input without the line break at its end, where there is one.
 fn without_last_break(input: &[u8]) -> &[u8]
-    ensures { result.now ≡ text.without_last_break input.now }
+    ensures { result.now ≡ spec.without_last_break input.now }
 {
     input.strip_suffix(b"\n").unwrap_or(input)
 }
 
 // Where the first line break is.
 fn first_break(lines: &[u8]) -> Option<usize>
-    ensures { result ≡ position text.is_break lines.now }
+    ensures { result ≡ position spec.is_break lines.now }
 {
     lines.iter().position(|c| *c == b'\n')
 }
 
 // The first line, and what is behind its line break, where it has one.
 fn first_line(lines: &[u8]) -> (&[u8], Option<&[u8]>)
-    ensures lines { slice_split text.is_break lines.now ≡ result.0.now ∷ text.lines_left result.1 }
+    ensures lines { slice_split spec.is_break lines.now ≡ result.0.now ∷ spec.lines_behind result.1 }
     ensures shorter { IfSome result.1 (λ rest. length rest.now < length lines.now) }
 {
     match first_break(lines) {
@@ -80,7 +80,7 @@ pub fn replay<W: Write, Q: Queries<W>>(
     most: usize,
     queries: &mut Q,
 ) -> io::Result<()>
-    ensures { OnOk result ((written : List ℕ) × text.Replayed Q.answers most queries.old input.now written queries.new
+    ensures { OnOk result ((written : List ℕ) × spec.Replayed Q.answers most queries.old input.now written queries.new
         × Appends (W.contents out.old) (W.contents out.new) written) }
 {
     if input.len() == most {

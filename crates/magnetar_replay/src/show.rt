@@ -158,7 +158,7 @@ pub fn answer<W: Write, T: fmt::Display + Copy>(
     out: &mut W,
     answer: Result<T, Refusal>,
 ) -> io::Result<()>
-    ensures { OnOk result (IfSome (text.answer_line T.output answer) (Appends (W.contents out.old) (W.contents out.new))) }
+    ensures { OnOk result (IfSome (text.call_line T.output answer) (Appends (W.contents out.old) (W.contents out.new))) }
 {
     match answer {
         Ok(value) => writeln!(out, "= {value}"),
