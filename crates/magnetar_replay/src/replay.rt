@@ -1,4 +1,4 @@
-// The queries of standard input, a line for each, and their answers.
+// The queries of an input, a line for each, and their answers.
 ghost use Rattle.std.specs.Prelude.{ℕ, Bool, List, ◌∷◌, IfOk, IfSome, OnOk, ◌≡◌, ◌<◌, take, length, ⊤};
 ghost use Rattle.std.specs.List.{slice_split, position};
 ghost use Rattle.std.specs.Io.KnownBytes.{Appends};
@@ -10,7 +10,7 @@ use std::io::{Read, Write};
 
 // Who knows queries, and writes their answers to a W.
 pub trait Queries<W: Write> {
-    // What a line may be answered by: whether its query is known, and the spec. An impl that leaves this out claims nothing.
+    // What a line may be answered by: whether its query is known, and the text. An impl that leaves this out claims nothing.
     ghost answers: { Self → (line : List ℕ) → (known : Bool) → (text : List ℕ) → Self → Type 0 } = { λ _ _ _ _ _. ⊤ };
 
     // Answers the query of a line, or says that it is none.
@@ -98,7 +98,7 @@ pub fn replay<W: Write, Q: Queries<W>>(
     Ok(())
 }
 
-// Standard input, of which at most `most` bytes are read. So many bytes may not be all of it.
+// An input, of which at most `most` bytes are read. So many bytes may not be all of it.
 pub fn read<R: Read + Drop>(alloc: Global, reader: R, most: usize) -> io::Result<Vec<u8>>
     ensures { IfOk result (λ input. IfSome (R.remaining reader) (λ bytes. input.items ≡ take most bytes)) }
 {
