@@ -1,6 +1,6 @@
 // The entries of a matrix, or of several that lie one behind the other, in whichever form they are lent: as four parallel number slices or as
 // one slice of records.
-ghost use Rattle.std.specs.Prelude.{◌≡◌, ◌-◌, length, min, take, drop, slice_index, IfSome};
+ghost use Rattle.std.specs.Prelude.{◌≡◌, ◌-◌, length, min, take, drop, slice_index, Bool, true, false, is_some, IfSome};
 ghost use Rattle.magnetar_field.specs.Gf128.{value};
 ghost use Rattle.magnetar_matrix.specs.Numbers.{Numbers, entry_of, entries_by, counts, slice_numbers, record_numbers, exchanged, part};
 
@@ -40,6 +40,9 @@ impl Entry {
 pub trait Entries {
     ghost numbers: { Self → Numbers };
 
+    // The four lists lie in memory as slices.
+    ghost in_slices: { Self → Bool };
+
     // How many entries there are.
     fn len(&self) -> usize
         ensures { result ≡ length (entries_by (numbers self.now)) };
@@ -57,10 +60,8 @@ pub trait Entries {
 
     // The four lists as slices, where they lie in memory as such. A walk over these is faster: it need not look them up for each entry.
     fn as_slices(&self) -> Option<Slices<'_>>
-        ensures { IfSome result (λ s. slice_numbers s ≡ numbers self.now) }
-    {
-        None
-    }
+        ensures there { is_some result ≡ in_slices self.now }
+        ensures same { IfSome result (λ s. slice_numbers s ≡ numbers self.now) };
 }
 
 // Entries as four parallel slices.
@@ -75,6 +76,8 @@ pub struct Slices<'a> {
 #[tactic(auto, using(crate::proofs::EntryLists::lengths))]
 impl Entries for Slices<'_> {
     ghost numbers = { slice_numbers };
+
+    ghost in_slices = { λ _. true };
 
     #[inline]
     fn len(&self) -> usize {
@@ -156,6 +159,8 @@ pub struct Records<'a> {
 impl Entries for Records<'_> {
     ghost numbers = { λ s. record_numbers s.entries.now };
 
+    ghost in_slices = { λ _. false };
+
     #[inline]
     fn len(&self) -> usize {
         self.entries.len()
@@ -170,6 +175,11 @@ impl Entries for Records<'_> {
         let n = self.entries.len();
         [n, n, n, n]
     }
+
+    #[inline]
+    fn as_slices(&self) -> Option<Slices<'_>> {
+        None
+    }
 }
 
 // Entries with row and column exchanged.
@@ -181,6 +191,8 @@ pub struct Exchanged<'a, E> {
 #[tactic(auto, using(crate::proofs::EntryLists::lengths))]
 impl<E: Entries> Entries for Exchanged<'_, E> {
     ghost numbers = { λ s. exchanged (E.numbers s.entries.now) };
+
+    ghost in_slices = { λ s. E.in_slices s.entries.now };
 
     #[inline]
     fn len(&self) -> usize {
@@ -236,6 +248,8 @@ impl<E> Part<'_, E> {
 #[tactic(auto, using(crate::proofs::EntryLists::lengths))]
 impl<E: Entries> Entries for Part<'_, E> {
     ghost numbers = { λ s. part s.from s.to (E.numbers s.entries.now) };
+
+    ghost in_slices = { λ s. E.in_slices s.entries.now };
 
     #[inline]
     fn len(&self) -> usize {
